@@ -1,0 +1,4 @@
+pub mod Growth
+pub mod LineLemmas
+pub mod NumberLemmas
+pub mod ScriptLemmas

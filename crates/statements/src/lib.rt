@@ -1,0 +1,17 @@
+//! The script of a run and its journal, as text: from bytes to statements, and from entries to the lines of the transcript.
+#![tactic(auto)]
+
+mod cause;
+mod entry;
+mod line;
+mod lines;
+mod print;
+mod script;
+mod statement;
+mod words;
+
+pub use cause::Cause;
+pub use entry::{Entry, Reply};
+pub use print::entry_text;
+pub use script::{ScriptError, read_script};
+pub use statement::{Script, Statement};
