@@ -22,7 +22,10 @@ pub enum Reply {
 #[derive(Debug, Drop)]
 pub enum Entry {
     /// A statement begins.
-    Start { session: SessionNo, statement: u32 },
+    Start {
+        session: SessionNo,
+        statement: u32,
+    },
     /// A read sees so many commits.
     View {
         session: SessionNo,

@@ -8,6 +8,8 @@ mod lines;
 mod print;
 mod script;
 mod statement;
+#[cfg(test)]
+mod tests;
 mod words;
 
 pub use cause::Cause;

@@ -4,7 +4,9 @@ ghost use Rattle.journal_model.specs.ScriptText.{read_line, read_said, read_stat
 ghost use Rattle.statements.specs.Forms.{form_view, statement_of, line_of};
 ghost use Rattle.statements.specs.Reads.{Gives};
 
-use crate::words::{Form, begins_with, document_number, form_of, has_space, session_number, split_word};
+use crate::words::{
+    Form, begins_with, document_number, form_of, has_space, is_marked, session_number, split_word,
+};
 use crate::{Cause, Statement};
 use engine_base::DocId;
 use json_tree::{TextError, from_text};
@@ -60,6 +62,9 @@ fn said(alloc: Global, first: &str, rest: &str) -> Result<Statement, LineError>
     ensures { Gives line_of result (read_said first.now rest.now) }
 {
     if !begins_with(b's', first.as_bytes()) {
+        return Err(LineError::Bad(Cause::Word));
+    }
+    if is_marked(first) {
         return Err(LineError::Bad(Cause::Word));
     }
     let (word, rest) = split_word(rest);

@@ -1,7 +1,7 @@
 // The words of a line.
 ghost use Rattle.std.specs.Prelude.{ℕ, ◌≡◌, ◌&&◌, List, option_map};
 ghost use Rattle.std.specs.List.{list_any};
-ghost use Rattle.journal_model.specs.ScriptText.{begins_with, first_word, behind, is_space, document_number, session_number, form_of, runs_on};
+ghost use Rattle.journal_model.specs.ScriptText.{begins_with, is_marked, first_word, behind, is_space, document_number, session_number, form_of, runs_on};
 ghost use Rattle.statements.specs.Forms.{form_view};
 
 /// The forms of a statement, by its word.
@@ -30,6 +30,16 @@ pub fn begins_with(byte: u8, text: &[u8]) -> bool
     match text {
         [] => false,
         [first, ..] => *first == byte,
+    }
+}
+
+/// Whether a line's first word has the mark of a line that steps nothing.
+pub fn is_marked(word: &str) -> bool
+    ensures { result ≡ is_marked word.now }
+{
+    match word.as_bytes() {
+        [.., last] => *last == b'&',
+        [] => false,
     }
 }
 

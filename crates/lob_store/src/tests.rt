@@ -1,0 +1,170 @@
+use super::*;
+use engine_base::Disk;
+use mem_disk::{MemSink, MemSource, SureDisk};
+use statements::Cause;
+use std::test::*;
+
+/// What stands around a run: its words, its script, and which calls of the source and the sink fail.
+struct Case<'a> {
+    words: &'a [&'a str],
+    script: &'a [u8],
+    read_fails: &'a [u64],
+    write_fails: &'a [u64],
+    room: u64,
+}
+
+const RUN: [&str; 2] = ["store.lob", "run"];
+
+fn whole(script: &[u8]) -> Case<'_> {
+    Case {
+        words: &RUN,
+        script,
+        read_fails: &[],
+        write_fails: &[],
+        room: 65_536,
+    }
+}
+
+fn strings(rt: &HostRuntime, words: &[&str]) -> Result<Vec<String>, Fail> {
+    let mut strings = Vec::new(rt.alloc());
+    for word in words {
+        strings.push(String::from_str(rt.alloc(), word)?)?;
+    }
+    Ok(strings)
+}
+
+// The status, and what the sink took.
+fn outcome(rt: &HostRuntime, case: &Case) -> Result<(Status, Vec<u8>), Fail> {
+    let alloc = rt.alloc();
+    let words = strings(rt, case.words)?;
+    let mut script = MemSource::new(
+        Vec::from_slice(alloc, case.script)?,
+        Vec::from_slice(alloc, case.read_fails)?,
+    );
+    let mut out = MemSink::new(alloc, case.room, Vec::from_slice(alloc, case.write_fails)?)?;
+    let disk = SureDisk::new(alloc, Vec::new(alloc), 0)?;
+    let (status, _disk) = run_turns(alloc, &words, &mut script, &mut out, disk);
+    let taken = Vec::from_slice(alloc, out.bytes())?;
+    Ok((status, taken))
+}
+
+#[test]
+fn scripts_and_their_transcripts(rt: HostRuntime) -> Result<(), Fail> {
+    let cases: [(&[u8], &[u8]); 6] = [
+        (b"", b""),
+        (b"# nothing\n\n\r\n", b""),
+        (
+            b"s1 insert 1 {\"a\":1000,\"b\":\"wxyz\",\"c\":\"[1, 3, 5, 7]\"}\ns1 get 1\n",
+            b"1 s1 start 1\n2 s1 did 1 ok full\n3 s1 commit 1\n4 s1 start 2\n5 s1 view 1\n6 s1 did 2 doc {\"a\": 1000, \"b\": \"wxyz\", \"c\": \"[1, 3, 5, 7]\"}\n",
+        ),
+        (
+            b"s1 insert 1 [18446744073709551615,-9223372036854775808]\r\ns1 get 1",
+            b"1 s1 start 1\n2 s1 did 1 ok full\n3 s1 commit 1\n4 s1 start 2\n5 s1 view 1\n6 s1 did 2 doc [18446744073709551615, -9223372036854775808]\n",
+        ),
+        (
+            b"s1 insert 7 1\ns1 insert 7 2\ns1 insert 3 3\n",
+            b"1 s1 start 1\n2 s1 did 1 ok full\n3 s1 commit 1\n4 s1 start 2\n5 s1 did 2 err exists\n6 s1 start 3\n7 s1 did 3 ok full\n8 s1 commit 2\n",
+        ),
+        (
+            b"s1 get 9\n",
+            b"1 s1 start 1\n2 s1 view 0\n3 s1 did 1 none\n",
+        ),
+    ];
+    for (script, transcript) in cases {
+        let (status, taken) = outcome(&rt, &whole(script))?;
+        assert_eq!(rt; status, Status::Done);
+        assert_eq!(rt; taken.as_slice(), transcript);
+    }
+    Ok(())
+}
+
+#[test]
+fn what_is_no_command(rt: HostRuntime) -> Result<(), Fail> {
+    let cases: [&[&str]; 5] = [
+        &[],
+        &["run"],
+        &["store.lob", "work"],
+        &["store.lob", "Run"],
+        &["store.lob", "run", "9"],
+    ];
+    for words in cases {
+        let case = Case {
+            words,
+            ..whole(b"s1 get 1")
+        };
+        let (status, taken) = outcome(&rt, &case)?;
+        assert_eq!(rt; status, Status::Usage);
+        assert_eq!(rt; taken.len(), 0);
+    }
+    Ok(())
+}
+
+#[test]
+fn a_bad_line_writes_nothing(rt: HostRuntime) -> Result<(), Fail> {
+    let case = whole(b"s1 insert 1 1\n\n# 2\ns1 insert 2 1.5\ns1 gets 1\n");
+    let (status, taken) = outcome(&rt, &case)?;
+    let cause = Cause::Float;
+    assert_eq!(rt; status, Status::Script { line: 4, cause });
+    assert_eq!(rt; taken.len(), 0);
+    Ok(())
+}
+
+#[test]
+fn a_script_cut_anywhere_is_run_or_refused(rt: HostRuntime) -> Result<(), Fail> {
+    let script = b"s1 insert 1 {\"a\": [1, \"\xc3\xa9\"]}\r\n# x\ns1 get 1\n";
+    for end in 0..script.len() {
+        let (status, _taken) = outcome(&rt, &whole(&script[..end]))?;
+        assert!(rt; matches!(status, Status::Done | Status::Script { .. }), "at {end}");
+    }
+    Ok(())
+}
+
+#[test]
+fn faults_of_source_and_sink(rt: HostRuntime) -> Result<(), Fail> {
+    let second_read = Case {
+        read_fails: &[2],
+        ..whole(b"s1 get 1")
+    };
+    assert_eq!(rt; outcome(&rt, &second_read)?.0, Status::ReadFault);
+    let first_write = Case {
+        write_fails: &[1],
+        ..whole(b"s1 get 1")
+    };
+    let (status, taken) = outcome(&rt, &first_write)?;
+    assert_eq!(rt; status, Status::WriteFault);
+    assert_eq!(rt; taken.len(), 0);
+    let small = Case {
+        room: 10,
+        ..whole(b"s1 get 1")
+    };
+    let (status, taken) = outcome(&rt, &small)?;
+    assert_eq!(rt; status, Status::WriteFault);
+    assert_eq!(rt; taken.as_slice(), b"1 s1 start".as_slice());
+    Ok(())
+}
+
+#[test]
+fn most_statements(rt: HostRuntime) -> Result<(), Fail> {
+    let mut script = Vec::new(rt.alloc());
+    for _ in 0..100_000 {
+        script.extend_from_slice(b"s1 get 1\n")?;
+    }
+    let case = Case {
+        room: 10_000_000,
+        ..whole(&script)
+    };
+    assert_eq!(rt; outcome(&rt, &case)?.0, Status::Done);
+    script.extend_from_slice(b"s1 get x\n")?;
+    let (line, cause) = (100_001, Cause::Many);
+    assert_eq!(rt; outcome(&rt, &whole(&script))?.0, Status::Script { line, cause });
+    Ok(())
+}
+
+#[test]
+fn longest_script(rt: HostRuntime) -> Result<(), Fail> {
+    let mut script = vec![in rt.alloc(); b'#'; 67_108_864]?;
+    assert_eq!(rt; outcome(&rt, &whole(&script))?.0, Status::Done);
+    script.push(b'#')?;
+    assert_eq!(rt; outcome(&rt, &whole(&script))?.0, Status::TooLong);
+    Ok(())
+}
