@@ -1,0 +1,2 @@
+pub mod MemPages
+pub mod Whole
