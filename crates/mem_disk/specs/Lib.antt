@@ -1,2 +1,4 @@
+pub mod MemPages
 pub mod Streams
 pub mod SureDisk
+pub mod Whole
