@@ -5,6 +5,7 @@ use statements::Cause;
 use std::test::*;
 
 /// What stands around a run: its words, its script, and which calls of the source and the sink fail.
+#[derive(Clone, Copy)]
 struct Case<'a> {
     words: &'a [&'a str],
     script: &'a [u8],
@@ -114,7 +115,10 @@ fn a_script_cut_anywhere_is_run_or_refused(rt: HostRuntime) -> Result<(), Fail> 
     let script = b"s1 insert 1 {\"a\": [1, \"\xc3\xa9\"]}\r\n# x\ns1 get 1\n";
     for end in 0..script.len() {
         let (status, _taken) = outcome(&rt, &whole(&script[..end]))?;
-        assert!(rt; matches!(status, Status::Done | Status::Script { .. }), "at {end}");
+        assert!(rt;
+            matches!(status, Status::Done | Status::Script { .. }),
+            "at {end}"
+        );
     }
     Ok(())
 }
@@ -156,7 +160,10 @@ fn most_statements(rt: HostRuntime) -> Result<(), Fail> {
     assert_eq!(rt; outcome(&rt, &case)?.0, Status::Done);
     script.extend_from_slice(b"s1 get x\n")?;
     let (line, cause) = (100_001, Cause::Many);
-    assert_eq!(rt; outcome(&rt, &whole(&script))?.0, Status::Script { line, cause });
+    assert_eq!(rt;
+        outcome(&rt, &whole(&script))?.0,
+        Status::Script { line, cause }
+    );
     Ok(())
 }
 
