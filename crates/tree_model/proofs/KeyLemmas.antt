@@ -1,5 +1,5 @@
 -- The order of keys, and members by key.
-use Rattle.std.proofs.Common.{◌≡◌, ◌≢◌, ℕ, Bool, true, false, List, length, Option, Some, cond, refl, sym, ap, ◌∙◌, Ordering, Less, Equal, Greater, is_eq, true≢false, nat_cmp, bytes_eq}
+use Rattle.std.proofs.Common.{◌≡◌, ◌≢◌, ℕ, Bool, true, false, List, length, Some, cond, refl, sym, ap, ◌∙◌, Ordering, Less, Equal, Greater, is_eq, true≢false, nat_cmp, bytes_eq}
 use Rattle.std.specs.Cmp.{IsTotalOrder}
 use Rattle.std.specs.Cmp.Lexicographic.{slice_cmp}
 use Rattle.std.specs.Ordering.{ordering_then, match_ordering}
