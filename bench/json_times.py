@@ -3,9 +3,9 @@
 
 Usage: bench/json_times.py [PROGRAM] [--rounds N] [--only NAME]
 
-PROGRAM is the built `lobstore` (by default the one that `rt run` leaves in crates/lobstore/out). For each input it runs the script
-`s1 insert 1 TEXT`, `s1 get 1`, and beside it a Python that loads the same text from a file and dumps it again. Each runs N times
-(by default 3), in turns; the best counts. Only ratios are comparable between machines.
+PROGRAM is the built `lobstore` (by default the one that `rt run` leaves in crates/lobstore/out). For each input it runs a script
+that inserts each of its documents and then gets each, and beside it a Python that loads the same texts from a file, a line each,
+and dumps them again. Each runs N times (by default 3), in turns; the best counts. Only ratios are comparable between machines.
 """
 import argparse
 import json
@@ -19,7 +19,7 @@ import time
 
 HERE = os.path.dirname(os.path.abspath(__file__))
 PROGRAM = os.path.join(HERE, "..", "crates", "lobstore", "out", "lobstore")
-LOADS_AND_DUMPS = "import json,sys; sys.stdout.write(json.dumps(json.loads(open(sys.argv[1]).read())))"
+LOADS_AND_DUMPS = "import json,sys; sys.stdout.writelines(json.dumps(json.loads(line)) + '\\n' for line in open(sys.argv[1]))"
 MEBI = 1024 * 1024
 
 
@@ -65,14 +65,21 @@ def nested(depth):
     return "[" * depth + "]" * depth
 
 
+def small(rng, count):
+    """Many documents of a few members."""
+    return [json.dumps({"id": n, "name": "item %d" % rng.randrange(100000), "tags": ["a", "b"]}) for n in range(count)]
+
+
+# The documents of each input, by name.
 INPUTS = {
-    "objects of 3 members, 10 MB": lambda rng: objects_of_three(rng, 10 * MEBI),
-    "objects of 1 member, 10 MB": lambda rng: tiny_objects(10 * MEBI),
-    "one object of 500,000 keys": lambda rng: wide_object(rng, 500_000),
-    "one text of 10 MB": lambda rng: long_text(rng, 10 * MEBI, False),
-    "one text of 10 MB, escapes": lambda rng: long_text(rng, 10 * MEBI, True),
-    "numbers, 10 MB": lambda rng: numbers(rng, 10 * MEBI),
-    "depth 100": lambda rng: nested(100),
+    "objects of 3 members, 10 MB": lambda rng: [objects_of_three(rng, 10 * MEBI)],
+    "objects of 1 member, 10 MB": lambda rng: [tiny_objects(10 * MEBI)],
+    "one object of 500,000 keys": lambda rng: [wide_object(rng, 500_000)],
+    "one text of 10 MB": lambda rng: [long_text(rng, 10 * MEBI, False)],
+    "one text of 10 MB, escapes": lambda rng: [long_text(rng, 10 * MEBI, True)],
+    "numbers, 10 MB": lambda rng: [numbers(rng, 10 * MEBI)],
+    "20,000 small documents": lambda rng: small(rng, 20_000),
+    "depth 100": lambda rng: [nested(100)],
 }
 
 
@@ -95,16 +102,17 @@ def by_key(pairs):
 
 def prepare(name, program, folder):
     """Makes the files of an input, and checks that our answer is Python's dump of the members in key order."""
-    text = INPUTS[name](random.Random(1))
+    texts = INPUTS[name](random.Random(1))
     with open(os.path.join(folder, "script"), "w") as out:
-        out.write("s1 insert 1 %s\ns1 get 1\n" % text)
+        out.writelines("s1 insert %d %s\n" % (n, text) for n, text in enumerate(texts, 1))
+        out.writelines("s1 get %d\n" % n for n in range(1, len(texts) + 1))
     with open(os.path.join(folder, "document"), "w") as out:
-        out.write(text)
+        out.writelines(text + "\n" for text in texts)
     with open(os.path.join(folder, "script"), "rb") as source:
         out = subprocess.run([program, os.path.join(folder, "store"), "run"], stdin=source, stdout=subprocess.PIPE, check=True).stdout
-    wanted = json.dumps(json.loads(text, object_pairs_hook=by_key)).encode()
-    if b" doc " + wanted + b"\n" not in out:
-        sys.exit("the answer differs from Python's")
+    answers = [line.split(b" doc ", 1)[1] for line in out.splitlines() if b" doc " in line]
+    if answers != [json.dumps(json.loads(text, object_pairs_hook=by_key)).encode() for text in texts]:
+        sys.exit("the answers differ from Python's")
 
 
 def best(runs):
