@@ -1,0 +1,5 @@
+pub mod LinkLemmas
+pub mod EndLemmas
+pub mod AddLemmas
+pub mod RemoveLemmas
+pub mod TestLemmas

@@ -1,0 +1,67 @@
+use Rattle.std.proofs.Common.{ℕ, ◌≡◌, ◌++◌, Option, Some, Ok, IfSome, subst, length, lit≤, ap, ◌∙◌, sym, arith, [], ◌∷◌}
+use Rattle.page_model.specs.Pages.{Pages, field}
+use Rattle.page_model.specs.Lists.{IsNodePlace, first_of, last_of}
+use Rattle.page_model.proofs.StepLemmas.{may_within, may_other, uses_at_most, within_one, within_two}
+use Rattle.engine_base.specs.Addresses.{address_of}
+use Rattle.file_lists.specs.Links.{link_of}
+use Rattle.file_lists.proofs.RemoveLemmas.{uses1, uses2, uses3, uses4, uses5, uses6, removes}
+use Rattle.file_lists.proofs.LinkLemmas.{link_read, plain_read, next_link, before_link, at_told, handed_on}
+use Rattle.file_lists.proofs.changes.remove.Goals as goal
+
+pub read_link-requires-clause-may : goal.read_link-requires-clause-may
+read_link-requires-clause-may g c = may_within _ _ 2 40 0 0 0 0 _ _ (within_one _ (_ ∷ [])) (lit≤ tt) (lit≤ tt) c.requires.may (uses1 g.P.Pages.stays_on _ _ 0 0 _ (g.P.Pages.stays_still _) _ c.read_field.ensures.uses)
+
+pub read_link-requires-2-clause-may : goal.read_link-requires-2-clause-may
+read_link-requires-2-clause-may g c = may_within _ _ 2 40 0 0 0 0 _ _ (within_one _ (_ ∷ [])) (lit≤ tt) (lit≤ tt) c.requires.may (uses2 g.P.Pages.stays_on _ _ 0 0 _ (g.P.Pages.stays_still _) _ _ c.read_field.ensures.uses c.read_link.ensures.uses)
+
+pub point_on-requires-clause-may : goal.point_on-requires-clause-may
+point_on-requires-clause-may g c = may_other _ _ 2 40 0 0 14 _ _ (lit≤ tt) (lit≤ tt) c.requires.may (uses3 g.P.Pages.stays_on _ _ 0 0 _ (g.P.Pages.stays_still _) _ _ _ c.read_field.ensures.uses c.read_link.ensures.uses c.read_link-2.ensures.uses)
+
+pub point_back-requires-clause-may : goal.point_back-requires-clause-may
+point_back-requires-clause-may g c = may_other _ _ 2 40 1 14 14 _ _ (lit≤ tt) (lit≤ tt) c.requires.may (uses4 g.P.Pages.stays_on _ _ _ 0 _ (g.P.Pages.stays_still _) _ _ _ _ c.read_field.ensures.uses c.read_link.ensures.uses c.read_link-2.ensures.uses c.point_on.ensures.uses)
+
+pub write_field-requires-clause-may : goal.write_field-requires-clause-may
+write_field-requires-clause-may g c = may_within _ _ 2 40 2 28 0 12 _ _ (within_two _ _ []) (lit≤ tt) (lit≤ tt) c.requires.may (uses5 g.P.Pages.stays_on _ _ _ _ _ (g.P.Pages.stays_still _) _ _ _ _ _ c.read_field.ensures.uses c.read_link.ensures.uses c.read_link-2.ensures.uses c.point_on.ensures.uses c.point_back.ensures.uses)
+
+pub returns-in_err-point_on-clause-uses : goal.returns-in_err-point_on-clause-uses
+returns-in_err-point_on-clause-uses g c = uses_at_most _ 1 14 2 40 _ _ (lit≤ tt) (lit≤ tt) (uses4 g.P.Pages.stays_on _ _ _ 0 _ (g.P.Pages.stays_still _) _ _ _ _ c.read_field.ensures.uses c.read_link.ensures.uses c.read_link-2.ensures.uses c.point_on.ensures.uses)
+
+pub returns-in_err-point_back-clause-uses : goal.returns-in_err-point_back-clause-uses
+returns-in_err-point_back-clause-uses g c = uses_at_most _ 2 28 2 40 _ _ (lit≤ tt) (lit≤ tt) (uses5 g.P.Pages.stays_on _ _ _ _ _ (g.P.Pages.stays_still _) _ _ _ _ _ c.read_field.ensures.uses c.read_link.ensures.uses c.read_link-2.ensures.uses c.point_on.ensures.uses c.point_back.ensures.uses)
+
+pub returns-in_err-write_field-clause-uses : goal.returns-in_err-write_field-clause-uses
+returns-in_err-write_field-clause-uses g c = (uses6 g.P.Pages.stays_on _ _ _ _ _ (g.P.Pages.stays_still _) _ _ _ _ _ _ c.read_field.ensures.uses c.read_link.ensures.uses c.read_link-2.ensures.uses c.point_on.ensures.uses c.point_back.ensures.uses c.write_field.ensures.uses)
+
+pub returns-clause-uses : goal.returns-clause-uses
+returns-clause-uses g c = (uses6 g.P.Pages.stays_on _ _ _ _ _ (g.P.Pages.stays_still _) _ _ _ _ _ _ c.read_field.ensures.uses c.read_link.ensures.uses c.read_link-2.ensures.uses c.point_on.ensures.uses c.point_back.ensures.uses c.write_field.ensures.uses)
+
+pub returns-clause-removes : goal.returns-clause-removes
+returns-clause-removes g c = λ pages before behind is list.
+    let s1 = c.read_field.new.p in
+    let is1 = c.read_field.ensures.told ∙ is in
+    let s2 = c.read_link.new.p in
+    let is2 = c.read_link.ensures.told ∙ is1 in
+    let there1 = before_link pages _ (address_of c.args.node) before behind _ (g.P.Pages.whole s1 pages is1) list in
+    let there2 = next_link pages _ (address_of c.args.node) before behind _ (g.P.Pages.whole s2 pages is2) list in
+    let link1 = link_read (Ok c.in_ok-before.before) _ _ _ _ pages (last_of before) (g.P.Pages.few s1) is1 c.in_ok-before.ensures.value c.in_ok-before.ensures.place there1.0 there1.1 in
+    let link2 = link_read (Ok c.in_ok-behind.behind) _ _ _ _ pages (first_of behind) (g.P.Pages.few s2) is2 c.in_ok-behind.ensures.value c.in_ok-behind.ensures.place there2.0 there2.1 in
+    let len = at_told _ (λ ps. c.in_ok-len.len ≡ field ps c.args.base.page.0 c.args.base.at 4) pages is c.in_ok-len.ensures.value ∙ list.count in
+    removes _ _ _ _ pages (address_of c.args.base) (address_of c.args.node) before behind (link_of c.in_ok-before.before) (link_of c.in_ok-behind.behind) c.in_ok-len.len
+    (c.read_link-2.ensures.told ∙ is2) list link1 link2 len c.in_ok-point_on.ensures.sets c.in_ok-point_back.ensures.sets c.in_ok-write_field.ensures.sets
+
+pub returns-in_err-before-clause-never : goal.returns-in_err-before-clause-never
+returns-in_err-before-clause-never g c = λ pages before behind is list.
+    let s1 = c.read_field.new.p in
+    let is1 = c.read_field.ensures.told ∙ is in
+    let there = before_link pages _ (address_of c.args.node) before behind _ (g.P.Pages.whole s1 pages is1) list in
+    handed_on c.read_link.result _ _ (plain_read c.read_link.result _ _ _ _ pages (last_of before) is1 c.read_link.ensures.never there.0 there.1) c.in_err-before.was c.from_residual-in_err-before.ensures
+
+pub returns-in_err-behind-clause-never : goal.returns-in_err-behind-clause-never
+returns-in_err-behind-clause-never g c = λ pages before behind is list.
+    let s2 = c.read_link.new.p in
+    let is2 = c.read_link.ensures.told ∙ (c.read_field.ensures.told ∙ is) in
+    let there = next_link pages _ (address_of c.args.node) before behind _ (g.P.Pages.whole s2 pages is2) list in
+    handed_on c.read_link-2.result _ _ (plain_read c.read_link-2.result _ _ _ _ pages (first_of behind) is2 c.read_link-2.ensures.never there.0 there.1) c.in_err-behind.was c.from_residual-in_err-behind.ensures
+
+pub returns-in_err-behind-clause-uses : goal.returns-in_err-behind-clause-uses
+returns-in_err-behind-clause-uses g c = uses_at_most _ 0 0 2 40 _ _ (lit≤ tt) (lit≤ tt) (uses3 g.P.Pages.stays_on _ _ 0 0 _ (g.P.Pages.stays_still _) _ _ _ c.read_field.ensures.uses c.read_link.ensures.uses c.read_link-2.ensures.uses)

@@ -1,0 +1,14 @@
+//! Doubly linked lists of nodes in pages: a base has the length and both ends, and a node the addresses before and
+//! behind it. A list is its nodes' addresses, from the first to the last.
+#![tactic(auto)]
+
+mod changes;
+mod layout;
+mod links;
+mod reads;
+
+pub use changes::{add_first, add_last, remove};
+pub use reads::{first, last, len, next};
+
+#[cfg(test)]
+mod tests;

@@ -1,0 +1,4 @@
+pub mod BitLemmas
+pub mod MapLemmas
+pub mod UseLemmas
+pub mod SystemLemmas

@@ -1,0 +1,4 @@
+pub mod Map
+pub mod Bits
+pub mod System
+pub mod Answers
