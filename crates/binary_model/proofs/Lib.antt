@@ -1,0 +1,9 @@
+pub mod OnLiterals
+pub mod LengthLemmas
+pub mod ReadLemmas
+pub mod StandLemmas
+pub mod CanonicalLemmas
+pub mod RoundLemmas
+pub mod CursorLemmas
+pub mod RunLemmas
+pub mod ChangeLemmas

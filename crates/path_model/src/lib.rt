@@ -1,0 +1,6 @@
+//! The definition of a path's text that contracts of every crate cite, and worked texts.
+#![tactic(auto)]
+
+mod texts;
+
+pub use texts::{row_faults, row_printed};
