@@ -2,7 +2,7 @@
 use Rattle.std.proofs.Common.{◌≡◌, ◌≢◌, ℕ, Bool, true, false, List, length, Some, cond, refl, sym, ap, ◌∙◌, Ordering, Less, Equal, Greater, is_eq, true≢false, nat_cmp, bytes_eq}
 use Rattle.std.specs.Cmp.{IsTotalOrder}
 use Rattle.std.specs.Cmp.Lexicographic.{slice_cmp}
-use Rattle.std.specs.Ordering.{ordering_then, match_ordering}
+use Rattle.std.specs.Ordering.{ordering_reverse, ordering_then, match_ordering}
 use Rattle.std.proofs.lemmas.Cmp.{tied_itself, on_total, then_total, nat_cmp_total, nat_list_cmp_total}
 use Rattle.std.proofs.lemmas.Map.Text.{is_eq-slice_cmp}
 use Rattle.std.proofs.lemmas.Slice.Eq.{bytes_eq-Decides}
@@ -14,6 +14,12 @@ key_total = then_total (on_total length nat_cmp_total) nat_list_cmp_total
 pub itself : (k : List ℕ) → key_cmp k k ≡ Equal
 itself k = tied_itself key_total k
 
+pub turned : (a b : List ℕ) (o : Ordering) → key_cmp a b ≡ o → key_cmp b a ≡ ordering_reverse o
+turned a b o e = key_total.antisymm b a ∙ ap ordering_reverse e
+
+pub same_key : (a b : List ℕ) → slice_cmp nat_cmp a b ≡ Equal → a ≡ b
+same_key a b e = (bytes_eq-Decides a b).0 (sym (is_eq-slice_cmp a b) ∙ ap is_eq e)
+
 second_equal : (a b : Ordering) → ordering_then a b ≡ Equal → b ≡ Equal
 second_equal Less b e = cc
 second_equal Equal b e = e
@@ -21,8 +27,7 @@ second_equal Greater b e = cc
 
 -- keys that tie are the same
 pub key_equal : (a b : List ℕ) → key_cmp a b ≡ Equal → a ≡ b
-key_equal a b e =
-    (bytes_eq-Decides a b).0 (sym (is_eq-slice_cmp a b) ∙ ap is_eq (second_equal (nat_cmp (length a) (length b)) (slice_cmp nat_cmp a b) e))
+key_equal a b e = same_key a b (second_equal (nat_cmp (length a) (length b)) (slice_cmp nat_cmp a b) e)
 
 -- keys whose order isn't a tie are not the same
 pub key_apart : (a b : List ℕ) → is_eq (key_cmp a b) ≡ false → bytes_eq a b ≡ false
