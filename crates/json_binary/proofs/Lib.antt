@@ -1,0 +1,14 @@
+pub mod Codes
+pub mod WordLemmas
+pub mod ScalarLemmas
+pub mod DecodeLemmas
+pub mod KeyLemmas
+pub mod MemberLemmas
+pub mod DocumentLemmas
+pub mod NumberLemmas
+pub mod SizeLemmas
+pub mod GrowthLemmas
+pub mod WriteLemmas
+pub mod EncodeLemmas
+pub mod UsageLemmas
+pub mod SearchLemmas

@@ -1,0 +1,26 @@
+//! JSON trees as MySQL's binary JSON: one canonical encoding, and a decoder that names the first fault.
+#![tactic(auto)]
+
+mod cursor;
+mod decoder;
+mod encoder;
+mod entries;
+mod error;
+mod layout;
+mod numbers;
+mod place;
+mod scalars;
+mod sizes;
+mod usage;
+mod writer;
+
+pub use cursor::{child, container_in, member, root};
+pub use decoder::decode;
+pub use encoder::encode;
+pub use error::{DecodeError, EncodeError};
+pub use layout::{Form, Kind, Width};
+pub use place::{Container, Spot};
+pub use usage::used;
+
+#[cfg(test)]
+mod tests;

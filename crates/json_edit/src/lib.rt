@@ -1,0 +1,13 @@
+//! Finding in trees by a path, and MySQL's JSON_SET, JSON_REPLACE and JSON_REMOVE of one pair
+//! on a tree in memory.
+#![tactic(auto)]
+
+mod action;
+mod children;
+mod edit;
+mod lookup;
+#[cfg(test)]
+mod tests;
+
+pub use edit::{remove, replace, set};
+pub use lookup::find;

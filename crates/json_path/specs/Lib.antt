@@ -1,0 +1,4 @@
+pub mod LegCode
+pub mod View
+pub mod Parsing
+pub mod Tokens
