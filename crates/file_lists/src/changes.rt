@@ -4,14 +4,14 @@ ghost use Rattle.std.specs.Prelude.{◌≡◌, ◌+◌, ◌<◌, ◌^◌, ℕ, L
 ghost use Rattle.page_model.specs.Pages.{Pages, Address};
 ghost use Rattle.page_model.specs.Lists.{IsBasePlace, IsNodePlace, IsList, IfListed};
 ghost use Rattle.page_model.specs.Steps.{MayUse, Uses, Becomes};
-ghost use Rattle.engine_base.specs.Faults.{HasCause, FailsPlainly};
+ghost use Rattle.engine_base.specs.Faults.{HasCause, FailsPlainly, IsHonest};
 ghost use Rattle.engine_base.specs.Addresses.{address_of};
 ghost use Rattle.file_lists.specs.Changes.{IsElsewhere, ChangesList};
-ghost use Rattle.file_lists.specs.Strange.{IsHonest, IsOddAtFront, IsOddAtBack, IsOddAround};
+ghost use Rattle.file_lists.specs.Strange.{IsOddAtFront, IsOddAtBack, IsOddAround};
 
 use crate::layout::{FIRST, GREATEST_LENGTH, LAST, NEXT};
-use crate::links::{point_back, point_on, read_link, strange, write_link};
-use engine_base::{Addr, Fault, Pages, read_field, write_field};
+use crate::links::{point_back, point_on, read_link, write_link};
+use engine_base::{Addr, Fault, Pages, read_field, strange, write_field};
 
 /// Puts a node that is in no list in front of this one. Besides the pages named it touches that of the node which was
 /// the first, and it writes 28 bytes in five writes. A list of 4,294,967,295 nodes takes no other.

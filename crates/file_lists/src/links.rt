@@ -4,13 +4,13 @@ ghost use Rattle.page_model.specs.Pages.{page_bytes, address_at};
 ghost use Rattle.page_model.specs.Lists.{IsNodePlace, IsBasePlace, IsLink, back_place, on_place, or_null};
 ghost use Rattle.page_model.specs.Spans.{SetsAddress};
 ghost use Rattle.page_model.specs.Steps.{MayUse, Uses, Told};
-ghost use Rattle.engine_base.specs.Faults.{HasCause, FailsPlainly};
+ghost use Rattle.engine_base.specs.Faults.{HasCause, FailsPlainly, IsHonest};
 ghost use Rattle.engine_base.specs.Addresses.{address_of};
 ghost use Rattle.file_lists.specs.Links.{link_of};
-ghost use Rattle.file_lists.specs.Strange.{IsHonest, IsOddLink, NamesPart};
+ghost use Rattle.file_lists.specs.Strange.{IsOddLink, NamesPart};
 
 use crate::layout::{FIRST, LAST, LAST_PLACE, NEXT, NULL_PAGE};
-use engine_base::{Addr, Fault, PageNo, Pages, read_address, write_address};
+use engine_base::{Addr, Fault, PageNo, Pages, read_address, strange, write_address};
 
 /// The address of a node, or none, in six bytes of a page. Strange where it is neither null nor the place of a node.
 pub fn read_link<P: Pages>(p: &mut P, page: PageNo, at: u16) -> Result<Option<Addr>, Fault>
@@ -53,13 +53,6 @@ fn link(count: u32, page: PageNo, at: u16, there: Addr) -> Result<Option<Addr>, 
         return strange(page, at + 4, u64::from(there.at));
     }
     Ok(Some(there))
-}
-
-// That the field there holds a value which isn't allowed.
-pub fn strange<T>(page: PageNo, at: u16, value: u64) -> Result<T, Fault>
-    ensures { result ≡ Err (Fault.Strange page at value) }
-{
-    Err(Fault::Strange { page, at, value })
 }
 
 /// Writes the address of the node, or the null address.

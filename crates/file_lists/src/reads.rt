@@ -3,10 +3,10 @@ ghost use Rattle.std.specs.Prelude.{◌≡◌, ◌+◌, List, [], ◌∷◌, ◌
 ghost use Rattle.page_model.specs.Pages.{Pages, Address};
 ghost use Rattle.page_model.specs.Lists.{IsBasePlace, IsNodePlace, IsList, IfListed, first_of, last_of};
 ghost use Rattle.page_model.specs.Steps.{MayUse, Uses};
-ghost use Rattle.engine_base.specs.Faults.{HasCause, FailsPlainly};
+ghost use Rattle.engine_base.specs.Faults.{HasCause, FailsPlainly, IsHonest};
 ghost use Rattle.engine_base.specs.Addresses.{address_of};
 ghost use Rattle.file_lists.specs.Links.{link_of};
-ghost use Rattle.file_lists.specs.Strange.{IsHonest, IsOddLink};
+ghost use Rattle.file_lists.specs.Strange.{IsOddLink};
 
 use crate::layout::{FIRST, LAST, NEXT};
 use crate::links::read_link;

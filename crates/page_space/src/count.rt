@@ -1,14 +1,14 @@
 // The count of free pages, and the map's lowest free page, read and judged.
 ghost use Rattle.std.specs.Prelude.{◌≡◌, ℕ, ◌*◌, ◌/◌, ◌<◌, ◌≤◌, [], ◌∷◌, length, slice_index, IfOk, IfErr, IfSome, IfNone};
 ghost use Rattle.page_model.specs.Steps.{MayUse, Uses};
-ghost use Rattle.engine_base.specs.Faults.{HasCause, FailsPlainly};
+ghost use Rattle.engine_base.specs.Faults.{HasCause, FailsPlainly, IsHonest};
 ghost use Rattle.page_space.specs.Bits.{AreOnes, IsLowestZero};
 ghost use Rattle.page_space.specs.Map.{IsSize, IfMapped, IsLowestFree, IsUsed, free_of};
-ghost use Rattle.page_space.specs.Answers.{IsHonest, IsOddCount};
+ghost use Rattle.page_space.specs.Answers.{IsOddCount};
 
 use crate::bits::lowest_zero;
 use crate::layout::{FREE_PAGES, MAP, MAP_BYTES, SYSTEM};
-use engine_base::{Fault, Pages, read_field};
+use engine_base::{Fault, Pages, read_field, strange};
 
 /// How many pages are free. Strange where that is more than there are.
 pub fn free_pages<P: Pages>(p: &mut P) -> Result<u32, Fault>
@@ -25,20 +25,9 @@ pub fn free_pages<P: Pages>(p: &mut P) -> Result<u32, Fault>
     let count = p.count();
     let free = read_field(p, SYSTEM, FREE_PAGES, 4)?;
     if free > u64::from(count) {
-        return strange(FREE_PAGES, free);
+        return strange(SYSTEM, FREE_PAGES, free);
     }
     Ok(free as u32)
-}
-
-// That the field there holds a value which isn't allowed.
-pub fn strange<T>(at: u16, value: u64) -> Result<T, Fault>
-    ensures { result ≡ Err (Fault.Strange SYSTEM at value) }
-{
-    Err(Fault::Strange {
-        page: SYSTEM,
-        at,
-        value,
-    })
 }
 
 /// A free page, and the byte of the map that has its bit.
