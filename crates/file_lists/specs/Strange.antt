@@ -10,6 +10,7 @@ use Rattle.page_model.specs.Steps.{PageState}
 use Rattle.engine_base.specs.Faults.{Oddity}
 use Rattle.engine_base.specs.declared.fault.Fault.{Fault}
 use Rattle.engine_base.specs.declared.fault.Fault.TheVariants.{Device, Strange}
+use Rattle.file_lists.specs.declared.layout.TheConstants.{FIRST, LAST, NEXT, GREATEST_LENGTH}
 
 -- a page that an address may have
 abbrev pub IsLinkPage : ℕ → ℕ → Type 0
@@ -41,7 +42,7 @@ pub record IsLength (told : Option Pages) (base : Address) (page at value : ℕ)
 
 pub record IsFull (told : Option Pages) (base : Address) (page at value : ℕ) : Type 0 where
   pub here : IsLength told base page at value
-  pub greatest : value ≡ 4_294_967_295
+  pub greatest : value ≡ GREATEST_LENGTH
 
 pub record IsBare (told : Option Pages) (base : Address) (page at value : ℕ) : Type 0 where
   pub here : IsLength told base page at value
@@ -49,13 +50,13 @@ pub record IsBare (told : Option Pages) (base : Address) (page at value : ℕ) :
 
 abbrev pub IsOddAtFront : PageState → Address → Oddity
 IsOddAtFront s base page at value =
-    IsFull s.told base page at value ⊎ IsOddLink s.told s.count base.page (base.at + 4) page at value
+    IsFull s.told base page at value ⊎ IsOddLink s.told s.count base.page (base.at + FIRST) page at value
 
 abbrev pub IsOddAtBack : PageState → Address → Oddity
 IsOddAtBack s base page at value =
-    IsFull s.told base page at value ⊎ IsOddLink s.told s.count base.page (base.at + 10) page at value
+    IsFull s.told base page at value ⊎ IsOddLink s.told s.count base.page (base.at + LAST) page at value
 
 abbrev pub IsOddAround : PageState → Address → Address → Oddity
 IsOddAround s base node page at value =
     IsBare s.told base page at value
-    ⊎ (IsOddLink s.told s.count node.page node.at page at value ⊎ IsOddLink s.told s.count node.page (node.at + 6) page at value)
+    ⊎ (IsOddLink s.told s.count node.page node.at page at value ⊎ IsOddLink s.told s.count node.page (node.at + NEXT) page at value)

@@ -3,7 +3,7 @@ ghost use Rattle.std.specs.Prelude.{◌≡◌, ◌+◌, ◌≤◌, ◌<◌, [], 
 ghost use Rattle.page_model.specs.Pages.{page_bytes, address_at};
 ghost use Rattle.page_model.specs.Lists.{IsNodePlace, IsBasePlace, IsLink, back_place, on_place, or_null};
 ghost use Rattle.page_model.specs.Spans.{SetsAddress};
-ghost use Rattle.page_model.specs.Steps.{MayUse, Uses, Told};
+ghost use Rattle.page_model.specs.Steps.{MayUse, Uses, Told, write_head};
 ghost use Rattle.engine_base.specs.Faults.{HasCause, FailsPlainly, IsHonest};
 ghost use Rattle.engine_base.specs.Addresses.{address_of};
 ghost use Rattle.file_lists.specs.Links.{link_of};
@@ -64,10 +64,10 @@ pub fn write_link<P: Pages>(
 ) -> Result<(), Fault>
     requires page { page.0 < (P.state p.old).count }
     requires within { at + 6 ≤ page_bytes }
-    requires may { MayUse (page.0 ∷ []) 0 14 (P.state p.old) }
+    requires may { MayUse (page.0 ∷ []) 0 (6 + write_head) (P.state p.old) }
     ensures sets { OnOk result (Told (SetsAddress page.0 at (or_null (link_of link)))
         (P.state p.old).told (P.state p.new).told) }
-    ensures uses { Uses P.state P.stays (page.0 ∷ []) 0 14 p.old p.new }
+    ensures uses { Uses P.state P.stays (page.0 ∷ []) 0 (6 + write_head) p.old p.new }
     ensures cause { HasCause (P.state p.old).faults (P.state p.new).faults result }
     ensures plain { FailsPlainly result }
 {
@@ -95,10 +95,10 @@ pub fn point_back<P: Pages>(
 ) -> Result<(), Fault>
     requires base { IsBasePlace (P.state p.old).count (address_of base) }
     requires from { IfSome from (λ a. IsNodePlace (P.state p.old).count (address_of a)) }
-    requires may { MayUse ((back_place (address_of base) (link_of from)).page ∷ []) 0 14 (P.state p.old) }
+    requires may { MayUse ((back_place (address_of base) (link_of from)).page ∷ []) 0 (6 + write_head) (P.state p.old) }
     ensures sets { let place = back_place (address_of base) (link_of from) in
         OnOk result (Told (SetsAddress place.page place.at (or_null (link_of to))) (P.state p.old).told (P.state p.new).told) }
-    ensures uses { Uses P.state P.stays ((back_place (address_of base) (link_of from)).page ∷ []) 0 14 p.old p.new }
+    ensures uses { Uses P.state P.stays ((back_place (address_of base) (link_of from)).page ∷ []) 0 (6 + write_head) p.old p.new }
     ensures cause { HasCause (P.state p.old).faults (P.state p.new).faults result }
     ensures plain { FailsPlainly result }
 {
@@ -117,10 +117,10 @@ pub fn point_on<P: Pages>(
 ) -> Result<(), Fault>
     requires base { IsBasePlace (P.state p.old).count (address_of base) }
     requires from { IfSome from (λ a. IsNodePlace (P.state p.old).count (address_of a)) }
-    requires may { MayUse ((on_place (address_of base) (link_of from)).page ∷ []) 0 14 (P.state p.old) }
+    requires may { MayUse ((on_place (address_of base) (link_of from)).page ∷ []) 0 (6 + write_head) (P.state p.old) }
     ensures sets { let place = on_place (address_of base) (link_of from) in
         OnOk result (Told (SetsAddress place.page place.at (or_null (link_of to))) (P.state p.old).told (P.state p.new).told) }
-    ensures uses { Uses P.state P.stays ((on_place (address_of base) (link_of from)).page ∷ []) 0 14 p.old p.new }
+    ensures uses { Uses P.state P.stays ((on_place (address_of base) (link_of from)).page ∷ []) 0 (6 + write_head) p.old p.new }
     ensures cause { HasCause (P.state p.old).faults (P.state p.new).faults result }
     ensures plain { FailsPlainly result }
 {

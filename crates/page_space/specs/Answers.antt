@@ -10,11 +10,12 @@ use Rattle.engine_base.specs.Faults.{Rose, Oddity, IsHonest}
 use Rattle.engine_base.specs.declared.fault.Fault.TheVariants.{Device}
 use Rattle.page_space.specs.declared.error.SpaceError.{SpaceError}
 use Rattle.page_space.specs.declared.error.SpaceError.TheVariants.{Full, Fault as Failed}
+use Rattle.page_space.specs.declared.layout.TheConstants.{FREE_PAGES}
 use Rattle.page_space.specs.Map.{free_of, IsUsed, place_of}
 
 pub record IsCount (told : Option Pages) (page at value : ℕ) : Type 0 where
   pub same_page : page ≡ 0
-  pub same_place : at ≡ 62
+  pub same_place : at ≡ FREE_PAGES
   pub reads : IfSome told (λ pages. value ≡ free_of pages)
 
 -- more pages are counted as free than there are

@@ -2,6 +2,7 @@
 ghost use Rattle.std.specs.Prelude.{◌≡◌, ℕ, ◌*◌, ◌/◌, ◌<◌, ◌≤◌, [], ◌∷◌, length, slice_index, IfOk, IfErr, IfSome, IfNone};
 ghost use Rattle.page_model.specs.Steps.{MayUse, Uses};
 ghost use Rattle.engine_base.specs.Faults.{HasCause, FailsPlainly, IsHonest};
+ghost use Rattle.page_space.specs.declared.layout.TheConstants.{MAP_BYTES};
 ghost use Rattle.page_space.specs.Bits.{AreOnes, IsLowestZero};
 ghost use Rattle.page_space.specs.Map.{IsSize, IfMapped, IsLowestFree, IsUsed, free_of};
 ghost use Rattle.page_space.specs.Answers.{IsOddCount};
@@ -59,7 +60,7 @@ pub fn lowest_free<P: Pages>(p: &mut P) -> Result<Option<Found>, Fault>
 
 // The lowest free page of a map.
 fn lowest_in(map: &[u8], count: u32) -> Option<Found>
-    requires map { length map.now ≤ 4_096 }
+    requires map { length map.now ≤ MAP_BYTES }
     requires within { count ≤ 8 * length map.now }
     ensures some { IfSome result (λ f. IsLowestZero map.now count f.page × (f.byte ≡ slice_index map.now (f.page / 8))) }
     ensures none { IfNone result (AreOnes map.now count) }

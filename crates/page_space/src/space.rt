@@ -1,6 +1,6 @@
 // Pages reserved, taken and given back.
-ghost use Rattle.std.specs.Prelude.{◌≡◌, ◌+◌, ◌-◌, ◌<◌, ◌≤◌, [], ◌∷◌, IfOk, IfErr, OnOk, OnErr};
-ghost use Rattle.page_model.specs.Steps.{MayUse, Uses, Becomes};
+ghost use Rattle.std.specs.Prelude.{◌≡◌, ◌+◌, ◌-◌, ◌*◌, ◌<◌, ◌≤◌, [], ◌∷◌, IfOk, IfErr, OnOk, OnErr};
+ghost use Rattle.page_model.specs.Steps.{MayUse, Uses, Becomes, write_head};
 ghost use Rattle.engine_base.specs.Faults.{HasCause, FailsPlainly, IsHonest};
 ghost use Rattle.page_space.specs.Map.{IsSize, IfMapped, IsUsed, TakesPage, GivesPage, free_of};
 ghost use Rattle.page_space.specs.Answers.{AnswersReserve, HasSpaceCause, IsHonestRefusal, IsOddCount, IsSpentOrOdd, IsRaisedOrNotUsed};
@@ -87,7 +87,7 @@ impl Space {
     pub fn take<P: Pages>(&mut self, p: &mut P) -> Result<PageNo, Fault>
         requires one { 1 ≤ self.old }
         requires size { IsSize (P.state p.old).count }
-        requires may { MayUse (0 ∷ []) 0 21 (P.state p.old) }
+        requires may { MayUse (0 ∷ []) 0 (5 + 2 * write_head) (P.state p.old) }
         ensures takes { IfMapped (P.state p.old).told (λ pages. self.old ≤ free_of pages
             → IfOk result (λ page. Becomes (P.state p.new).told (λ new.
             TakesPage page.0 pages new × (self.new ≤ free_of new)))) }
@@ -101,7 +101,7 @@ impl Space {
         ensures never { IfMapped (P.state p.old).told (λ pages. self.old ≤ free_of pages → FailsPlainly result) }
         ensures cause { HasCause (P.state p.old).faults (P.state p.new).faults result }
 
-        ensures uses { Uses P.state P.stays (0 ∷ []) 0 21 p.old p.new }
+        ensures uses { Uses P.state P.stays (0 ∷ []) 0 (5 + 2 * write_head) p.old p.new }
     {
         let free = free_pages(p)?;
         if free == 0 {
@@ -121,7 +121,7 @@ impl Space {
     pub fn give<P: Pages>(&mut self, p: &mut P, page: PageNo) -> Result<(), Fault>
         requires page { page.0 < (P.state p.old).count }
         requires size { IsSize (P.state p.old).count }
-        requires may { MayUse (0 ∷ []) 0 21 (P.state p.old) }
+        requires may { MayUse (0 ∷ []) 0 (5 + 2 * write_head) (P.state p.old) }
         ensures gives { IfMapped (P.state p.old).told (λ pages. IsUsed pages page.0
             → OnOk result (Becomes (P.state p.new).told (GivesPage page.0 pages))) }
         ensures reserved { self.new ≡ self.old }
@@ -132,7 +132,7 @@ impl Space {
         ensures never { IfMapped (P.state p.old).told (λ pages. IsUsed pages page.0 → FailsPlainly result) }
         ensures cause { HasCause (P.state p.old).faults (P.state p.new).faults result }
 
-        ensures uses { Uses P.state P.stays (0 ∷ []) 0 21 p.old p.new }
+        ensures uses { Uses P.state P.stays (0 ∷ []) 0 (5 + 2 * write_head) p.old p.new }
     {
         let count = p.count();
         let free = free_pages(p)?;
