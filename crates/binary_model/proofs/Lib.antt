@@ -7,3 +7,6 @@ pub mod RoundLemmas
 pub mod CursorLemmas
 pub mod RunLemmas
 pub mod ChangeLemmas
+pub mod AgreeLemmas
+pub mod StayLemmas
+pub mod AgainLemmas

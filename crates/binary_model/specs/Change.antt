@@ -4,7 +4,7 @@
 --     Run, runs      maximal runs of differing places
 --     Change, change      what a statement's edit stores
 use Rattle.std.specs.Prelude.{ℕ, zero, suc, ◌+◌, ◌-◌, List, [], ◌∷◌, ◌++◌, length, take, drop, slice_range, bytes_eq, Option, Some, None, option_map, option_and_then, unwrap_or, ◌==◌, nat_le, if◌then◌else◌}
-use Rattle.tree_model.specs.Tree.{Tree, array, object, tree_list, Members, no_members, member}
+use Rattle.tree_model.specs.Tree.{Tree, array, object, tree_list, Members, no_members, member, IsTree}
 use Rattle.tree_model.specs.Path.{Leg, key, cell, last, Path, child as tree_child, from_end}
 use Rattle.tree_model.specs.Edit.{Edit, Set, Replace, Remove, set, replace, remove}
 use Rattle.tree_model.specs.Same.{same_tree}
@@ -142,6 +142,16 @@ abbrev pub progress : Edit → Progress → Progress
 progress (Set pairs) p = all_replaced set pairs p
 progress (Replace pairs) p = all_replaced replace pairs p
 progress (Remove paths) p = all_removed paths p
+
+-- the values that an edit sets are trees
+abbrev pub HoldTrees : List (Path × Tree) → Type 0
+HoldTrees [] = Unit {0}
+HoldTrees (a ∷ rest) = IsTree a.1 × HoldTrees rest
+
+abbrev pub SetsTrees : Edit → Type 0
+SetsTrees (Set pairs) = HoldTrees pairs
+SetsTrees (Replace pairs) = HoldTrees pairs
+SetsTrees (Remove paths) = Unit {0}
 
 pub data Change : Type 0 where
   Same : Change

@@ -8,7 +8,7 @@ ghost use Rattle.binary_model.specs.Canonical.{canonical, canonical_length, numb
 ghost use Rattle.binary_model.specs.FirstFault.{first_fault};
 ghost use Rattle.binary_model.specs.Place.{Holds};
 ghost use Rattle.binary_model.specs.Cursor.{BothFound, find_spot};
-ghost use Rattle.binary_model.specs.Change.{Progress, progress, put_all, runs};
+ghost use Rattle.binary_model.specs.Change.{Progress, progress, put_all, runs, Run, Parts, change, SetsTrees};
 
 /// The length is that of the canonical encoding.
 #[tactic(auto, using(crate::proofs::LengthLemmas::measured_length))]
@@ -83,4 +83,12 @@ pub fn no_proper_prefix()
 #[tactic(auto, using(crate::proofs::ChangeLemmas::same_edits))]
 pub fn change_follows_the_tree()
     ensures { (edit : Edit) (p : Progress) → (progress edit p).«tree» ≡ edited edit p.«tree» }
+{}
+
+/// The bytes that a change in place leaves stand for the edited tree, and are as many as before.
+pub fn edits_stand()
+    ensures { (bytes : List ℕ) (t : Tree) (edit : Edit) (rs : List Run) → IsBytes bytes →
+        Stands bytes t → SetsTrees edit → depth (edited edit t) ≤ max_nested →
+        change bytes t edit ≡ Parts rs →
+        Stands (put_all rs bytes) (edited edit t) × (length (put_all rs bytes) ≡ length bytes) }
 {}

@@ -1,0 +1,5 @@
+use Rattle.binary_model.proofs.AgainLemmas.{stays}
+use Rattle.binary_model.proofs.laws.edits_stand.Goals as goal
+
+pub returns : goal.returns
+returns c = ?
