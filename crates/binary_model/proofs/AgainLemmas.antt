@@ -102,23 +102,42 @@ pub key_end_moved : (xs ys : List ℕ) (c : Container) (j l : ℕ) → Agree xs 
 key_end_moved xs ys c j l a = ap₂ (λ m n. m + n) (key_at_moved xs ys c j l a)
     (sym (number_agrees xs ys (key_entry c j + word c.form) (key_entry c l + word c.form) 2 (agree_part xs ys (key_entry c j) (key_entry c l) (key_width c.form) (word c.form) 2 a (omega arith))))
 
-pub keys_again : (ks : List (List ℕ)) (xs ys : List ℕ) (c : Container) (j l floor above : ℕ) → length xs ≡ length ys → end ys c ≡ end xs c → above ≤ floor → AreKeys xs c j floor ks
-    → NextKeys xs ys c j l (length ks) → Same xs ys floor (end xs c) → AreKeys ys c l above ks
-keys_again [] xs ys c j l floor above len ends low h entries same = tt
-keys_again (k ∷ ks) xs ys c j l floor above len ends low h entries same =
+-- the keys that are left end at or before the top
+abbrev pub KeysBelow : List ℕ → Container → ℕ → ℕ → ℕ → Type 0
+KeysBelow bytes c j n top = (m : ℕ) → m < n → key_end bytes c (j + m) ≤ top
+
+later_below : (bytes : List ℕ) (c : Container) (j n top : ℕ) → KeysBelow bytes c j (suc n) top → KeysBelow bytes c (suc j) n top
+later_below bytes c j n top h = λ m low. let e : j + suc m ≡ suc j + m = omega arith in subst (λ i. key_end bytes c i ≤ top) e (h (suc m) (omega (arith, low)))
+
+first_below : (bytes : List ℕ) (c : Container) (j n top : ℕ) → KeysBelow bytes c j (suc n) top → key_end bytes c j ≤ top
+first_below bytes c j n top h = let e : j + 0 ≡ j = omega arith in subst (λ i. key_end bytes c i ≤ top) e (h 0 (omega arith))
+
+joined_below : (bytes : List ℕ) (c : Container) (j n top : ℕ) → key_end bytes c j ≤ top → KeysBelow bytes c (suc j) n top → KeysBelow bytes c j (suc n) top
+joined_below bytes c j n top first h zero low = let e : j ≡ j + 0 = omega arith in subst (λ i. key_end bytes c i ≤ top) e first
+joined_below bytes c j n top first h (suc m) low = let e : suc j + m ≡ j + suc m = omega arith in subst (λ i. key_end bytes c i ≤ top) e (h m (omega (arith, low)))
+
+pub keys_inside : (ks : List (List ℕ)) (bytes : List ℕ) (c : Container) (j floor : ℕ) → AreKeys bytes c j floor ks → KeysBelow bytes c j (length ks) (end bytes c)
+keys_inside [] bytes c j floor h = λ m low. let no : ⊥ = omega (arith, low) in absurd no
+keys_inside (k ∷ ks) bytes c j floor h = joined_below bytes c j (length ks) (end bytes c) h.1 (keys_inside ks bytes c (suc j) (key_end bytes c j) h.3)
+
+pub keys_again : (ks : List (List ℕ)) (xs ys : List ℕ) (c : Container) (j l floor above top : ℕ) → length xs ≡ length ys → end ys c ≡ end xs c → above ≤ floor → AreKeys xs c j floor ks
+    → NextKeys xs ys c j l (length ks) → KeysBelow xs c j (length ks) top → Same xs ys floor top → AreKeys ys c l above ks
+keys_again [] xs ys c j l floor above top len ends low h entries below same = tt
+keys_again (k ∷ ks) xs ys c j l floor above top len ends low h entries below same =
     let entry = first_key xs ys c j l (length ks) entries in
     let start = key_at_moved xs ys c j l entry in
     let stop = key_end_moved xs ys c j l entry in
     let first = h.0 in
     let last = h.1 in
     let letters : key_of ys c l ≡ key_of xs c j =
-        ap₂ (λ a b. slice_range ys a b) start stop ∙ sym (range_same xs ys (key_at xs c j) (key_end xs c j) len (same_part xs ys floor (end xs c) (key_at xs c j) (key_end xs c j) same first last)) in
+        ap₂ (λ a b. slice_range ys a b) start stop
+        ∙ sym (range_same xs ys (key_at xs c j) (key_end xs c j) len (same_part xs ys floor top (key_at xs c j) (key_end xs c j) same first (first_below xs c j (length ks) top below))) in
     let wide : key_at xs c j ≤ key_end xs c j = omega arith in (
       omega (arith, low, first, start),
       omega (arith, last, stop, ends),
       letters ∙ h.2,
-      keys_again ks xs ys c (suc j) (suc l) (key_end xs c j) (key_end ys c l) len ends (omega (arith, stop)) h.3 (later_keys xs ys c j l (length ks) entries)
-          (same_part xs ys floor (end xs c) (key_end xs c j) (end xs c) same (omega (arith, first, wide)) (omega arith)),
+      keys_again ks xs ys c (suc j) (suc l) (key_end xs c j) (key_end ys c l) top len ends (omega (arith, stop)) h.3 (later_keys xs ys c j l (length ks) entries) (later_below xs c j (length ks) top below)
+          (same_part xs ys floor top (key_end xs c j) top same (omega (arith, first, wide)) (omega arith)),
     )
 
 -- where the keys end at the latest
@@ -133,6 +152,13 @@ keys_low (k ∷ ks) bytes c j h low =
     let more = rest.0 in
     let first = h.0 in
     subst (λ n. (keys_end bytes c j ≤ keys_end bytes c n) × (keys_end bytes c n ≤ end bytes c)) e (omega (arith, first, more), rest.1)
+
+pub keys_under : (ks : List (List ℕ)) (bytes : List ℕ) (c : Container) (j : ℕ) → AreKeys bytes c j (keys_end bytes c j) ks → KeysBelow bytes c j (length ks) (keys_end bytes c (j + length ks))
+keys_under [] bytes c j h = λ m low. let no : ⊥ = omega (arith, low) in absurd no
+keys_under (k ∷ ks) bytes c j h =
+    let e : suc j + length ks ≡ j + suc (length ks) = omega arith in
+    subst (λ n. KeysBelow bytes c j (suc (length ks)) (keys_end bytes c n)) e
+    (joined_below bytes c j (length ks) (keys_end bytes c (suc j + length ks)) (keys_low ks bytes c (suc j) h.3 h.1).0 (keys_under ks bytes c (suc j) h.3))
 
 -- ---- a container whose header and entries are the same
 
@@ -193,20 +219,20 @@ frame_same xs ys c window many ends f =
     let e = entries_end_same xs ys c many in
     (f.0, omega (arith, a, ends), omega (arith, b, ends, e))
 
-entries_stay : (xs ys : List ℕ) (c : Container) (n : ℕ) → count ys c ≡ count xs c → n ≤ count xs c → Same xs ys c.at (entries_end xs c) → NextEntries xs ys c 0 0 n
+pub entries_stay : (xs ys : List ℕ) (c : Container) (n : ℕ) → count ys c ≡ count xs c → n ≤ count xs c → Same xs ys c.at (entries_end xs c) → NextEntries xs ys c 0 0 n
 entries_stay xs ys c n many most s = λ m low.
     let first = values_first xs c in
     let last = entry_within xs c (0 + m) (count xs c) (omega (arith, low, most)) in
     entry_stays xs ys c (0 + m) c.at (entries_end xs c) many s (omega (arith, first)) last
 
-keys_stay : (xs ys : List ℕ) (c : Container) (n : ℕ) → Same xs ys c.at (key_entry c n) → NextKeys xs ys c 0 0 n
+pub keys_stay : (xs ys : List ℕ) (c : Container) (n : ℕ) → Same xs ys c.at (key_entry c n) → NextKeys xs ys c 0 0 n
 keys_stay xs ys c n s = λ m low.
     let last = key_within c (0 + m) n (omega (arith, low)) in
     same_agree xs ys c.at (key_entry c n) (key_entry c (0 + m)) (key_width c.form) s (omega arith) last
 
 -- ---- containers
 
-abbrev HasElements : List ℕ → ℕ → Trees → Container → Type 0
+abbrev pub HasElements : List ℕ → ℕ → Trees → Container → Type 0
 HasElements bytes window ts c = (c.keyed ≡ false) × IsFrame bytes c window × (count bytes c ≡ length (tree_list ts)) × AreElements bytes c 0 (entries_end bytes c) ts
 
 array_kind : (ts : Trees) → AllStay ts → (xs ys : List ℕ) (s : Spot) (tag : ℕ) → length xs ≡ length ys → (kind : Kind) → Same xs ys s.at (end_as xs kind s)
@@ -234,7 +260,7 @@ array_kind ts all xs ys s tag len (array_in form) same p =
 array_kind ts all xs ys s tag len (object_in form) same p = let e = p.0 in let no : ⊥ = cc in absurd no
 array_kind ts all xs ys s tag len kind same p = absurd p
 
-abbrev HasMembers : List ℕ → ℕ → Members → Container → Type 0
+abbrev pub HasMembers : List ℕ → ℕ → Members → Container → Type 0
 HasMembers bytes window ms c = (c.keyed ≡ true) × IsFrame bytes c window × (count bytes c ≡ length (member_list ms)) × AreKeys bytes c 0 (entries_end bytes c) (map (λ m. m.0) (member_list ms))
     × HoldValues bytes c 0 (values_floor bytes c) ms
 
@@ -264,8 +290,9 @@ object_kind ms all xs ys s tag len (object_in form) same p =
         p.0,
         frame_same xs ys c s.window many ends f,
         many ∙ number,
-        keys_again ks xs ys c 0 0 (entries_end xs c) (entries_end ys c) len ends (omega (arith, last)) p.3
-            (keys_stay xs ys c (length ks) (same_part xs ys s.at (end xs c) c.at (key_entry c (length ks)) same (omega arith) (omega (arith, key_entries_end, whole)))) tail,
+        keys_again ks xs ys c 0 0 (entries_end xs c) (entries_end ys c) (end xs c) len ends (omega (arith, last)) p.3
+            (keys_stay xs ys c (length ks) (same_part xs ys s.at (end xs c) c.at (key_entry c (length ks)) same (omega arith) (omega (arith, key_entries_end, whole))))
+            (keys_inside ks xs c 0 (entries_end xs c) p.3) tail,
         hold_back ys c 0 (values_floor ys c) ms
             (elements_again (values ms) all xs ys c 0 0 (values_floor xs c) (values_floor ys c) (values_floor xs c) len ends (values_stand xs c 0 (values_floor xs c) ms p.4)
             (entries_stay xs ys c (length (tree_list (values ms))) many (omega (arith, number, values_number)) (same_part xs ys s.at (end xs c) c.at (entries_end xs c) same (omega arith) whole))

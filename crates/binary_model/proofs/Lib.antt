@@ -10,3 +10,5 @@ pub mod ChangeLemmas
 pub mod AgreeLemmas
 pub mod StayLemmas
 pub mod AgainLemmas
+pub mod RefitLemmas
+pub mod KidsLemmas
