@@ -12,3 +12,5 @@ pub mod StayLemmas
 pub mod AgainLemmas
 pub mod RefitLemmas
 pub mod KidsLemmas
+pub mod WrittenLemmas
+pub mod ByteLemmas
