@@ -66,7 +66,7 @@ range_same xs ys a b e h =
 
 -- ---- texts
 
-some_is : {A : Type 0} {x y : A} → Some x ≡ Some y → x ≡ y
+pub some_is : {A : Type 0} {x y : A} → Some x ≡ Some y → x ≡ y
 some_is {A} {x} {y} e = ap (λ o. elim o [ None ↦ x | Some z ↦ z ]) e
 
 abbrev FirstSame : List ℕ → List ℕ → ℕ → Type 0

@@ -14,3 +14,4 @@ pub mod RefitLemmas
 pub mod KidsLemmas
 pub mod WrittenLemmas
 pub mod ByteLemmas
+pub mod ReplaceLemmas

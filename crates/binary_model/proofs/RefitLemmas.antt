@@ -39,7 +39,7 @@ with_length (tree t ts) (suc n) u = ap suc (with_length ts n u)
 
 -- ---- floors
 
-floor_up : (bytes : List ℕ) (c : Container) (t : Tree) (j floor : ℕ) → IsPlaced bytes c j floor → IsValue bytes t (child bytes c j) → floor ≤ floor_after bytes c j floor
+pub floor_up : (bytes : List ℕ) (c : Container) (t : Tree) (j floor : ℕ) → IsPlaced bytes c j floor → IsValue bytes t (child bytes c j) → floor ≤ floor_after bytes c j floor
 floor_up bytes c t j floor p v = go (inlined bytes c j) refl
   where
     go : (b : Bool) → inlined bytes c j ≡ b → floor ≤ cond b floor (value_end bytes (child bytes c j))
