@@ -15,3 +15,4 @@ pub mod KidsLemmas
 pub mod WrittenLemmas
 pub mod ByteLemmas
 pub mod ReplaceLemmas
+pub mod LiftLemmas

@@ -94,13 +94,13 @@ pub record Lifted (xs ys : List ℕ) (t : Tree) (s : Spot) : Type 0 where
 
 -- ---- in the entry
 
-abbrev Replaced : List ℕ → List ℕ → Container → ℕ → ℕ → Tree → Type 0
+abbrev pub Replaced : List ℕ → List ℕ → Container → ℕ → ℕ → Tree → Type 0
 Replaced xs ys c n r u = (length xs ≡ length ys) × IsBytes ys × Refits xs ys c n r u × Same xs ys 0 (value_entry xs c n) × ((i : ℕ) → end xs c ≤ i → slice_index xs i ≡ slice_index ys i)
 
 kind_here : (ys : List ℕ) (u : Tree) (e : ℕ) → slice_index ys e ≡ code_of (spelling u).0 → kind_at ys e ≡ (spelling u).0
 kind_here ys u e h = ap kind_of h ∙ code_again u
 
-replaced_inlined : (xs : List ℕ) (c : Container) (n r : ℕ) (t u : Tree) → IsBytes xs → Room xs c n r t → end xs c ≤ length xs → IsTree u → is_inlined c.form (spelling u).0 ≡ true
+pub replaced_inlined : (xs : List ℕ) (c : Container) (n r : ℕ) (t u : Tree) → IsBytes xs → Room xs c n r t → end xs c ≤ length xs → IsTree u → is_inlined c.form (spelling u).0 ≡ true
     → Replaced xs (in_entry xs c n (spelling u)) c n r u
 replaced_inlined xs c n r t u octets room top is e =
     let v = spelling u in
@@ -166,7 +166,7 @@ place_above bytes c n p = go (inlined bytes c n) refl
     go true e = omega arith
     go false e = p e
 
-replaced_outside : (xs : List ℕ) (c : Container) (n r : ℕ) (t u : Tree) → IsBytes xs → Room xs c n r t → end xs c ≤ length xs → IsTree u → is_inlined c.form (spelling u).0 ≡ false
+pub replaced_outside : (xs : List ℕ) (c : Container) (n r : ℕ) (t u : Tree) → IsBytes xs → Room xs c n r t → end xs c ≤ length xs → IsTree u → is_inlined c.form (spelling u).0 ≡ false
     → room_start xs c n + length (spelling u).1 ≤ room_end xs c n → Replaced xs (at_place xs c n (room_start xs c n) (spelling u)) c n r u
 replaced_outside xs c n r t u octets room top is e fits =
     let v = spelling u in

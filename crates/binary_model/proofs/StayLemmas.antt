@@ -161,7 +161,7 @@ abbrev pub StandsAgain : List ℕ → List ℕ → Tree → Container → ℕ �
 StandsAgain xs ys t c j l b = (inlined ys c l ≡ b) × IsValue ys t (child ys c l)
     × (b ≡ false → ((child ys c l).at ≡ (child xs c j).at) × (value_end ys (child ys c l) ≡ value_end xs (child xs c j)))
 
-behind_tag : (xs ys : List ℕ) (c : Container) (j l : ℕ) → EntryMoved xs ys c j l → Agree xs (suc (value_entry xs c j)) ys (suc (value_entry ys c l)) (word c.form)
+pub behind_tag : (xs ys : List ℕ) (c : Container) (j l : ℕ) → EntryMoved xs ys c j l → Agree xs (suc (value_entry xs c j)) ys (suc (value_entry ys c l)) (word c.form)
 behind_tag xs ys c j l e = λ i below.
     let left : suc (value_entry xs c j) + i ≡ value_entry xs c j + suc i = omega arith in
     let right : value_entry ys c l + suc i ≡ suc (value_entry ys c l) + i = omega arith in
