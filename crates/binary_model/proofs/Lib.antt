@@ -16,3 +16,4 @@ pub mod WrittenLemmas
 pub mod ByteLemmas
 pub mod ReplaceLemmas
 pub mod LiftLemmas
+pub mod ShrinkLemmas

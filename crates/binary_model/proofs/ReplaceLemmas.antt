@@ -151,7 +151,7 @@ replaced_inlined xs c n r t u octets room top is e =
 
 -- ---- at its place
 
-number_low : (bytes : List ℕ) (w at : ℕ) → IsBytes bytes → number_at bytes w at < 256 ^ w
+pub number_low : (bytes : List ℕ) (w at : ℕ) → IsBytes bytes → number_at bytes w at < 256 ^ w
 unfolding number_at
 number_low bytes w at h = little_from-lt at w bytes h
 

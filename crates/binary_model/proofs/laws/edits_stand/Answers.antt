@@ -1,4 +1,4 @@
-use Rattle.binary_model.proofs.LiftLemmas.{lifted}
+use Rattle.binary_model.proofs.ShrinkLemmas.{shrunk}
 use Rattle.binary_model.proofs.laws.edits_stand.Goals as goal
 
 pub returns : goal.returns
