@@ -17,3 +17,4 @@ pub mod ByteLemmas
 pub mod ReplaceLemmas
 pub mod LiftLemmas
 pub mod ShrinkLemmas
+pub mod RemoveLemmas

@@ -30,7 +30,7 @@ starts_within bytes c (tree t ts) j floor h = go (inlined bytes c j) refl (start
     go true e low = low
     go false e low = let extent = bounds bytes t (child bytes c j) h.1 in let a = extent.0 in let b = extent.1 in omega (arith, a, b)
 
-ends_within : (bytes : List ℕ) (c : Container) (t : Tree) (j floor : ℕ) → IsValue bytes t (child bytes c j) → floor ≤ end bytes c → floor_after bytes c j floor ≤ end bytes c
+pub ends_within : (bytes : List ℕ) (c : Container) (t : Tree) (j floor : ℕ) → IsValue bytes t (child bytes c j) → floor ≤ end bytes c → floor_after bytes c j floor ≤ end bytes c
 ends_within bytes c t j floor h low = go (inlined bytes c j)
   where
     go : (b : Bool) → cond b floor (value_end bytes (child bytes c j)) ≤ end bytes c
