@@ -179,3 +179,121 @@ keys_later xs ys c k n keyed most h = λ m low.
     let last = key_within c (suc (0 + k) + m) (count xs c) (omega (arith, low, most)) in
     subst (λ a. Agree xs a ys (key_entry c ((0 + k) + m)) w) left (subst (λ b. Agree xs (key_entry c (suc k) + m * w) ys b w) right
     (agree_part xs ys (key_entry c (suc k)) (key_entry c k) (key_entry c (count xs c) - key_entry c (suc k)) (m * w) w (h.keys_behind keyed) (omega (arith, last, left))))
+
+-- ---- the keys and the floors of what is left
+
+entries_lower : (xs ys : List ℕ) (c : Container) (k : ℕ) → Shrunk xs ys c k → entries_end ys c ≤ entries_end xs c
+entries_lower xs ys c k h =
+    let lower = h.lower in
+    let fewer = h.fewer in
+    let less : count ys c ≤ count xs c = omega (arith, fewer) in
+    let more : count ys c * value_width c.form ≤ count xs c * value_width c.form = mul-le-mul_right (value_width c.form) less in
+    omega (arith, lower, more)
+
+key_under : (xs ys : List ℕ) (c : Container) (k top i : ℕ) → c.keyed ≡ true → Shrunk xs ys c k → k < count xs c → suc i ≡ count xs c - 1 → KeysBelow xs c 0 (count xs c) top → key_end ys c i ≤ top
+key_under xs ys c k top i keyed h low size under = elim (cases_lt i k) [
+  inl less ↦
+      let z : 0 + i ≡ i = omega arith in
+      let entry = subst (λ j. Agree xs (key_entry c j) ys (key_entry c j) (key_width c.form)) z (keys_kept xs ys c k keyed h i less) in
+      let same = key_end_moved xs ys c i i entry in
+      let at = subst (λ j. key_end xs c j ≤ top) z (under i (omega (arith, size))) in
+      omega (arith, same, at)
+  | inr more ↦
+      let m = i - k in
+      let left : suc (0 + k) + m ≡ 0 + suc i = omega (arith, more) in
+      let right : 0 + k + m ≡ i = omega (arith, more) in
+      let entry = keys_later xs ys c k (count xs c - suc k) keyed (omega arith) h m (omega (arith, more, size)) in
+      let moved = subst (λ a. Agree xs (key_entry c a) ys (key_entry c i) (key_width c.form)) left (subst (λ b. Agree xs (key_entry c (suc (0 + k) + m)) ys (key_entry c b) (key_width c.form)) right entry) in
+      let same = key_end_moved xs ys c (0 + suc i) i moved in
+      let at = under (suc i) (omega (arith, size)) in
+      omega (arith, same, at)
+]
+
+abbrev LeftKeys : List ℕ → List ℕ → Container → ℕ → Tree → Type 0
+LeftKeys xs ys c k t = KeyPart ys c (without_kid t k) × (entries_end ys c ≤ values_floor ys c) × (values_floor ys c ≤ values_floor xs c)
+
+last_under : (xs ys : List ℕ) (c : Container) (k top p : ℕ) → c.keyed ≡ true → Shrunk xs ys c k → k < count xs c → p ≡ count xs c - 1 → entries_end xs c ≤ top → KeysBelow xs c 0 (count xs c) top → keys_end ys c p ≤ top
+last_under xs ys c k top zero keyed h low size floor under = let lower = entries_lower xs ys c k h in omega (arith, lower, floor)
+last_under xs ys c k top (suc i) keyed h low size floor under = key_under xs ys c k top i keyed h low size under
+
+left_keys : (t : Tree) (xs ys : List ℕ) (c : Container) (k : ℕ) → Shrunk xs ys c k → k < count xs c → count xs c ≡ length (tree_list (kids t)) → entries_end xs c ≤ end xs c → entries_end xs c ≤ values_floor xs c → KeyPart xs c t → LeftKeys xs ys c k t
+left_keys null xs ys c k h low many whole floor p = absurd p
+left_keys (boolean b) xs ys c k h low many whole floor p = absurd p
+left_keys (number z) xs ys c k h low many whole floor p = absurd p
+left_keys (text x) xs ys c k h low many whole floor p = absurd p
+left_keys (array ts) xs ys c k h low many whole floor p =
+    let lower = entries_lower xs ys c k h in
+    let new : values_floor ys c ≡ entries_end ys c = ap (λ b. cond b (keys_end ys c (count ys c)) (entries_end ys c)) p in
+    let old : values_floor xs c ≡ entries_end xs c = ap (λ b. cond b (keys_end xs c (count xs c)) (entries_end xs c)) p in
+    (p, omega (arith, new), omega (arith, new, old, lower))
+left_keys (object ms) xs ys c k h low many whole floor p =
+    let ks = map (λ m. m.0) (member_list ms) in
+    let lower = entries_lower xs ys c k h in
+    let ends = h.ends in
+    let fewer = h.fewer in
+    let all_keys : count xs c ≡ length ks = many ∙ sym (values_length ms) ∙ sym (keys_length ms) in
+    let z : 0 + length ks ≡ count xs c = omega (arith, all_keys) in
+    let new : values_floor ys c ≡ keys_end ys c (count ys c) = ap (λ b. cond b (keys_end ys c (count ys c)) (entries_end ys c)) p.0 in
+    let old : values_floor xs c ≡ keys_end xs c (count xs c) = ap (λ b. cond b (keys_end xs c (count xs c)) (entries_end xs c)) p.0 in
+    let left = keys_taken ks xs ys c 0 k (entries_end xs c) (entries_end ys c) h.len ends p.1 (omega (arith, low, all_keys)) (keys_kept xs ys c k p.0 h) (keys_later xs ys c k (length ks - suc k) p.0 (omega (arith, all_keys)) h)
+        (λ i first below. h.behind i first) lower in
+    let left_length = without_key_length ks k (omega (arith, low, all_keys)) in
+    let number : 0 + length (without_key ks k) ≡ count ys c = omega (arith, left_length, fewer, all_keys) in
+    let rise = (keys_low (without_key ks k) ys c 0 left (omega (arith, lower, whole, ends))).0 in
+    let under : KeysBelow xs c 0 (count xs c) (values_floor xs c) = subst (λ top. KeysBelow xs c 0 (count xs c) top) (sym old)
+        (subst (λ n. KeysBelow xs c 0 (count xs c) (keys_end xs c n)) z (subst (λ n. KeysBelow xs c 0 n (keys_end xs c (0 + length ks))) (sym all_keys) (keys_under ks xs c 0 p.1))) in (
+      (p.0, subst (AreKeys ys c 0 (entries_end ys c)) (sym (keys_without ms k)) left),
+      subst (λ n. entries_end ys c ≤ n) (ap (keys_end ys c) number ∙ sym new) rise,
+      subst (λ n. n ≤ values_floor xs c) (sym new) (last_under xs ys c k (values_floor xs c) (count ys c) p.0 h low fewer floor under),
+    )
+
+-- ---- the container
+
+removed : (xs ys : List ℕ) (t : Tree) (s : Spot) (c : Container) (n : ℕ) → Kids xs t s c → s.tag < s.at → n < length (tree_list (kids t)) → Shrunk xs ys c n → Lifted xs ys (without_kid t n) s
+removed xs ys t s c n h tag low less =
+    let many = h.number in
+    let here : n < count xs c = omega (arith, low, many) in
+    let whole = h.frame.2 in
+    let inside = h.frame.1 in
+    let ends = less.ends in
+    let place = h.place in
+    let lower = entries_lower xs ys c n less in
+    let keys = left_keys t xs ys c n less here many whole h.floor.0 h.keys in
+    let floor_first = keys.1 in
+    let floor_lower = keys.2 in
+    let floor_last = h.floor.1 in
+    let behind = rest_length (kids t) n in
+    let left = without_length (kids t) n low in
+    let fewer = less.fewer in
+    let kind : kind_at ys s.tag ≡ kind_at xs s.tag = ap kind_of (sym (less.below s.tag (omega arith) (omega (arith, tag, place)))) in
+    let same_kids = kids_without t n in
+    let same_size : length (tree_list (kids (without_kid t n))) ≡ length (tree_list (without_element (kids t) n)) = ap (λ ts. length (tree_list ts)) same_kids in
+    let after : Kids ys (without_kid t n) s c = record {
+      is = ap (λ k. container_as k s.at) kind ∙ h.is;
+      ends = λ others. ap (λ k. end_as others k s) kind ∙ h.ends others;
+      place = place;
+      frame = (h.frame.0, omega (arith, inside, ends), omega (arith, lower, whole, ends));
+      number = omega (arith, fewer, many, left, same_size);
+      floor = (floor_first, omega (arith, floor_lower, floor_last, ends));
+      elements = subst (λ ts. AreElements ys c 0 (values_floor ys c) ts) (sym same_kids)
+          (taken (kids t) xs ys c 0 n (values_floor xs c) (values_floor ys c) (entries_end xs c) less.len ends h.elements low floor_last (values_kept xs ys c n less)
+          (values_later xs ys c n (length (tree_list (rest (kids t) n))) (omega (arith, behind, many)) less) (λ i first below. less.behind i first) h.floor.0 floor_lower);
+      keys = keys.0;
+    } in
+    let stop = h.ends xs in
+    record {
+      len = less.len;
+      octets = less.octets;
+      value = from_kids ys (without_kid t n) s c after;
+      ends = after.ends ys ∙ ends ∙ sym stop;
+      below = subst (Same xs ys 0) place less.below;
+      above = λ i first. less.behind i (omega (arith, first, stop, whole));
+    }
+
+pub kid_removed : (xs : List ℕ) → IsBytes xs → Acts xs (without_value xs) without_kid
+kid_removed xs octets t ys s c n h tag window low e =
+    let inside = h.frame.1 in
+    let whole = h.frame.2 in
+    let many = h.number in
+    let less = shrunk xs c n octets (omega (arith, low, many)) (omega (arith, whole, inside, window)) in
+    subst (λ zs. Lifted xs zs (without_kid t n) s) (some_is e) (removed xs _ t s c n h tag low less)
