@@ -18,3 +18,4 @@ pub mod ReplaceLemmas
 pub mod LiftLemmas
 pub mod ShrinkLemmas
 pub mod RemoveLemmas
+pub mod PositionLemmas
