@@ -14,8 +14,8 @@ use Rattle.binary_model.specs.Change.{member_position, position_of, positions}
 use Rattle.binary_model.proofs.AgreeLemmas.{some_is}
 use Rattle.binary_model.proofs.StandLemmas.{values}
 use Rattle.binary_model.proofs.RefitLemmas.{nth, with_element}
-use Rattle.binary_model.proofs.KidsLemmas.{kids, with_nth_member, with_kid}
-use Rattle.binary_model.proofs.RemoveLemmas.{without_element, without_nth_member, without_kid}
+use Rattle.binary_model.proofs.KidsLemmas.{kids, with_nth_member, with_kid, keys_with}
+use Rattle.binary_model.proofs.RemoveLemmas.{without_element, without_nth_member, without_kid, without_key, keys_without}
 use Rattle.binary_model.proofs.LiftLemmas.{changed_at, Reaches}
 
 -- ---- elements
@@ -261,3 +261,151 @@ set_positions (l ∷ ls) u t ks is e = let p = put_path (set_at u) u (set_puts u
 pub replace_positions : (path : Path) (u t : Tree) (ks : List ℕ) → IsTree t → positions path t ≡ Some ks → (replace path u t ≡ put_at ks u t) × Reaches ks t
 replace_positions [] u t ks is e = subst (λ ks. (replace [] u t ≡ put_at ks u t) × Reaches ks t) (some_is e) (refl, tt)
 replace_positions (l ∷ ls) u t ks is e = let p = put_path (replaced u) u (replace_puts u) ls l t ks is e in (ap (λ o. unwrap_or o t) p.0, p.1)
+
+-- ---- a path that removes
+
+-- the value at the end of the positions is taken out
+abbrev pub Out : List ℕ → Tree → Option Tree → Type 0
+Out ks t o = (1 ≤ length ks) × (o ≡ Some (changed_at without_kid ks t))
+
+-- or nothing
+abbrev pub TakesOut : List ℕ → Tree → Option Tree → Type 0
+TakesOut ks t o = ((o ≡ None) ⊎ Out ks t o) × Reaches ks t
+
+one_out : (t : Tree) (l : Leg) (v : Tree) → Step t l v → TakesOut (position_of t l ++ []) t (taken_out t l)
+one_out t l v (inl s) = (inl s.3, subst (λ ks. Reaches (ks ++ []) t) (sym s.0) tt)
+one_out t l v (inr (k, s)) = subst (λ ks. TakesOut (ks ++ []) t (taken_out t l)) (sym s.position) (inr (omega arith, s.out), (s.low, tt))
+
+out_below : (t : Tree) (k : ℕ) (js : List ℕ) (v : Tree) (o : Option Tree) → nth (kids t) k ≡ v → Out js v o → Out (k ∷ js) t (option_map (with_kid t k) o)
+out_below t k [] v o e h = let low = h.0 in let no : ⊥ = omega (arith, low) in absurd no
+out_below t k (j ∷ js) v o e h = (omega arith, ap (option_map (with_kid t k)) h.1 ∙ ap (λ w. Some (with_kid t k (changed_at without_kid (j ∷ js) w))) (sym e))
+
+same_map : (f g : Tree → Tree) (o : Option Tree) → ((w : Tree) → f w ≡ g w) → option_map f o ≡ option_map g o
+same_map f g None h = refl
+same_map f g (Some w) h = ap Some (h w)
+
+map_itself : (f : Tree → Tree) (o : Option Tree) → ((w : Tree) → f w ≡ w) → option_map f o ≡ o
+map_itself f None h = refl
+map_itself f (Some w) h = ap Some (h w)
+
+more_out : (t : Tree) (l : Leg) (v : Tree) (js : List ℕ) (o : Option Tree) → Step t l v → TakesOut js v o → TakesOut (position_of t l ++ js) t (option_map (with_child t l) o)
+more_out t l v js o (inl s) h =
+    subst (λ ks. TakesOut (ks ++ js) t (option_map (with_child t l) o)) (sym s.0) (subst (TakesOut js t) (sym (map_itself (with_child t l) o s.2)) (subst (λ w. TakesOut js w o) s.1 h))
+more_out t l v js o (inr (k, s)) (inl none, r) =
+    subst (λ ks. TakesOut (ks ++ js) t (option_map (with_child t l) o)) (sym s.position) (inl (ap (option_map (with_child t l)) none), (s.low, subst (Reaches js) (sym s.found) r))
+more_out t l v js o (inr (k, s)) (inr out, r) =
+    subst (λ ks. TakesOut (ks ++ js) t (option_map (with_child t l) o)) (sym s.position)
+    (inr (subst (Out (k ∷ js) t) (sym (same_map (with_child t l) (with_kid t k) o s.set)) (out_below t k js v o s.found out)), (s.low, subst (Reaches js) (sym s.found) r))
+
+one_taken : (l : Leg) (t : Tree) (ks : List ℕ) → IsTree t → (o : Option Tree) → child t l ≡ o
+    → option_and_then (λ v. option_map (λ ks. position_of t l ++ ks) (Some [])) o ≡ Some ks → TakesOut ks t (taken_out t l)
+one_taken l t ks is None at e = let no : ⊥ = cc in absurd no
+one_taken l t ks is (Some v) at e = subst (λ ks. TakesOut ks t (taken_out t l)) (some_is e) (one_out t l v (leg_step t l v is at))
+
+more_taken : (l m : Leg) (ls : Path) (t v : Tree) (ks : List ℕ) → IsTree t → child t l ≡ Some v → (o : Option (List ℕ)) → positions (m ∷ ls) v ≡ o
+    → option_map (λ ks. position_of t l ++ ks) o ≡ Some ks → ((js : List ℕ) → positions (m ∷ ls) v ≡ Some js → TakesOut js v (at_parent taken_out m ls v)) → TakesOut ks t (at_parent taken_out l (m ∷ ls) t)
+more_taken l m ls t v ks is at None below e again = let no : ⊥ = cc in absurd no
+more_taken l m ls t v ks is at (Some js) below e again =
+    subst (λ o. TakesOut ks t (option_map (with_child t l) (option_and_then (at_parent taken_out m ls) o))) (sym at)
+    (subst (λ ks. TakesOut ks t (option_map (with_child t l) (at_parent taken_out m ls v))) (some_is e) (more_out t l v js (at_parent taken_out m ls v) (leg_step t l v is at) (again js below)))
+
+below_taken : (l m : Leg) (ls : Path) (t : Tree) (ks : List ℕ) → IsTree t → (o : Option Tree) → child t l ≡ o
+    → option_and_then (λ v. option_map (λ ks. position_of t l ++ ks) (positions (m ∷ ls) v)) o ≡ Some ks
+    → ((v : Tree) (js : List ℕ) → IsTree v → positions (m ∷ ls) v ≡ Some js → TakesOut js v (at_parent taken_out m ls v)) → TakesOut ks t (at_parent taken_out l (m ∷ ls) t)
+below_taken l m ls t ks is None at e again = let no : ⊥ = cc in absurd no
+below_taken l m ls t ks is (Some v) at e again = more_taken l m ls t v ks is at (positions (m ∷ ls) v) refl e (λ js. again v js (step_is t l v is (leg_step t l v is at)))
+
+out_path : (ls : Path) (l : Leg) (t : Tree) (ks : List ℕ) → IsTree t → positions (l ∷ ls) t ≡ Some ks → TakesOut ks t (at_parent taken_out l ls t)
+out_path [] l t ks is e = one_taken l t ks is (child t l) refl e
+out_path (m ∷ ls) l t ks is e = below_taken l m ls t ks is (child t l) refl e (λ v js. out_path ls m v js)
+
+-- a path that removes leaves the tree, or takes out the value at the end of its positions
+abbrev pub Removes : List ℕ → Tree → Tree → Type 0
+Removes ks t u = ((u ≡ t) ⊎ (u ≡ changed_at without_kid ks t)) × Reaches ks t
+
+removes : (ks : List ℕ) (t : Tree) (o : Option Tree) → TakesOut ks t o → Removes ks t (unwrap_or o t)
+removes ks t o (inl none, r) = (inl (ap (λ o. unwrap_or o t) none), r)
+removes ks t o (inr out, r) = (inr (ap (λ o. unwrap_or o t) out.1), r)
+
+pub remove_positions : (path : Path) (t : Tree) (ks : List ℕ) → IsTree t → positions path t ≡ Some ks → Removes ks t (remove_path path t)
+remove_positions [] t ks is e = (inl refl, subst (λ ks. Reaches ks t) (some_is e) tt)
+remove_positions (l ∷ ls) t ks is e = removes ks t (at_parent taken_out l ls t) (out_path ls l t ks is e)
+
+-- ---- what a tree keeps
+
+elements_with : (ts : Trees) (n : ℕ) (u : Tree) → AreTrees ts → IsTree u → AreTrees (with_element ts n u)
+elements_with no_trees n u h is = tt
+elements_with (tree t ts) zero u h is = (is, h.1)
+elements_with (tree t ts) (suc n) u h is = (h.0, elements_with ts n u h.1 is)
+
+elements_without : (ts : Trees) (n : ℕ) → AreTrees ts → AreTrees (without_element ts n)
+elements_without no_trees n h = tt
+elements_without (tree t ts) zero h = h.1
+elements_without (tree t ts) (suc n) h = (h.0, elements_without ts n h.1)
+
+members_with : (ms : Members) (n : ℕ) (u : Tree) → HoldTrees ms → IsTree u → HoldTrees (with_nth_member ms n u)
+members_with no_members n u h is = tt
+members_with (member k t ms) zero u h is = (is, h.1)
+members_with (member k t ms) (suc n) u h is = (h.0, members_with ms n u h.1 is)
+
+members_without : (ms : Members) (n : ℕ) → HoldTrees ms → HoldTrees (without_nth_member ms n)
+members_without no_members n h = tt
+members_without (member k t ms) zero h = h.1
+members_without (member k t ms) (suc n) h = (h.0, members_without ms n h.1)
+
+abbrev Rise : List (List ℕ) → Type 0
+Rise [] = Unit {0}
+Rise (k ∷ []) = IsKey k
+Rise (k ∷ l ∷ ks) = IsKey k × (key_cmp k l ≡ Less) × Rise (l ∷ ks)
+
+members_rise : (ms : List (List ℕ × Tree)) → AreMembers ms → Rise (map (λ m. m.0) ms)
+members_rise [] h = tt
+members_rise (m ∷ []) h = h
+members_rise (m ∷ n ∷ ms) h = (h.0, h.1, members_rise (n ∷ ms) h.2)
+
+rise_members : (ms : List (List ℕ × Tree)) → Rise (map (λ m. m.0) ms) → AreMembers ms
+rise_members [] h = tt
+rise_members (m ∷ []) h = h
+rise_members (m ∷ n ∷ ms) h = (h.0, h.1, rise_members (n ∷ ms) h.2)
+
+rise_behind : (k : List ℕ) (ks : List (List ℕ)) → Rise (k ∷ ks) → Rise ks
+rise_behind k [] h = tt
+rise_behind k (l ∷ ks) h = h.2
+
+rise_over : (k l : List ℕ) (ks : List (List ℕ)) → Rise (k ∷ l ∷ ks) → Rise (k ∷ ks)
+rise_over k l [] h = h.0
+rise_over k l (m ∷ ks) h = (h.0, key_total.trans k l m h.1 h.2.1, h.2.2)
+
+rise_without : (ks : List (List ℕ)) (n : ℕ) → Rise ks → Rise (without_key ks n)
+rise_without [] n h = tt
+rise_without (k ∷ ks) zero h = rise_behind k ks h
+rise_without (k ∷ []) (suc n) h = h
+rise_without (k ∷ l ∷ ks) (suc zero) h = rise_over k l ks h
+rise_without (k ∷ l ∷ ks) (suc (suc n)) h = (h.0, h.1, rise_without (l ∷ ks) (suc n) h.2)
+
+with_kid_is : (t : Tree) (n : ℕ) (u : Tree) → IsTree t → IsTree u → IsTree (with_kid t n u)
+with_kid_is null n u h is = tt
+with_kid_is (boolean b) n u h is = tt
+with_kid_is (number z) n u h is = h
+with_kid_is (text x) n u h is = h
+with_kid_is (array ts) n u h is = elements_with ts n u h is
+with_kid_is (object ms) n u h is =
+    (rise_members (member_list (with_nth_member ms n u)) (subst Rise (sym (keys_with ms n u)) (members_rise (member_list ms) h.0)), members_with ms n u h.1 is)
+
+without_kid_is : (t : Tree) (n : ℕ) → IsTree t → IsTree (without_kid t n)
+without_kid_is null n h = tt
+without_kid_is (boolean b) n h = tt
+without_kid_is (number z) n h = h
+without_kid_is (text x) n h = h
+without_kid_is (array ts) n h = elements_without ts n h
+without_kid_is (object ms) n h =
+    (rise_members (member_list (without_nth_member ms n)) (subst Rise (sym (keys_without ms n)) (rise_without (map (λ m. m.0) (member_list ms)) n (members_rise (member_list ms) h.0))), members_without ms n h.1)
+
+pub put_at_is : (ks : List ℕ) (u t : Tree) → IsTree u → IsTree t → IsTree (put_at ks u t)
+put_at_is [] u t is h = is
+put_at_is (k ∷ ks) u t is h = with_kid_is t k (put_at ks u (nth (kids t) k)) h (put_at_is ks u (nth (kids t) k) is (kid_is t k h))
+
+pub taken_is : (ks : List ℕ) (t : Tree) → IsTree t → IsTree (changed_at without_kid ks t)
+taken_is [] t h = h
+taken_is (k ∷ []) t h = without_kid_is t k h
+taken_is (k ∷ l ∷ ls) t h = with_kid_is t k (changed_at without_kid (l ∷ ls) (nth (kids t) k)) h (taken_is (l ∷ ls) (nth (kids t) k) (kid_is t k h))

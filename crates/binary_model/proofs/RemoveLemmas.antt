@@ -30,7 +30,7 @@ without_kid (array ts) n = array (without_element ts n)
 without_kid (object ms) n = object (without_nth_member ms n)
 without_kid t n = t
 
-abbrev without_key : List (List ℕ) → ℕ → List (List ℕ)
+abbrev pub without_key : List (List ℕ) → ℕ → List (List ℕ)
 without_key [] n = []
 without_key (k ∷ ks) zero = ks
 without_key (k ∷ ks) (suc n) = k ∷ without_key ks n
@@ -40,7 +40,7 @@ values_without no_members n = refl
 values_without (member k t ms) zero = refl
 values_without (member k t ms) (suc n) = ap (tree t) (values_without ms n)
 
-keys_without : (ms : Members) (n : ℕ) → map (λ m. m.0) (member_list (without_nth_member ms n)) ≡ without_key (map (λ m. m.0) (member_list ms)) n
+pub keys_without : (ms : Members) (n : ℕ) → map (λ m. m.0) (member_list (without_nth_member ms n)) ≡ without_key (map (λ m. m.0) (member_list ms)) n
 keys_without no_members n = refl
 keys_without (member k t ms) zero = refl
 keys_without (member k t ms) (suc n) = ap (λ ks. k ∷ ks) (keys_without ms n)
