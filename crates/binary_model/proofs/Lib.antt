@@ -19,3 +19,4 @@ pub mod LiftLemmas
 pub mod ShrinkLemmas
 pub mod RemoveLemmas
 pub mod PositionLemmas
+pub mod EditLemmas

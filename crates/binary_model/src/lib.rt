@@ -5,8 +5,8 @@ mod laws;
 mod rows;
 
 pub use laws::{
-    canonical_encodings_stand, canonical_has_length, change_follows_the_tree, no_proper_prefix,
-    numbers_stand, paths_in_place, read_stands, runs_give_the_new, stands_for_one, stands_read,
+    canonical_encodings_stand, canonical_has_length, change_follows_the_tree, edits_stand,
+    no_proper_prefix, numbers_stand, paths_in_place, read_stands, runs_give_the_new, stands_for_one, stands_read,
     texts_stand,
 };
 pub use rows::{
