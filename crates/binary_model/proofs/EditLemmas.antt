@@ -1,15 +1,14 @@
 -- The bytes that a change in place leaves stand for the edited tree.
-use Rattle.std.proofs.Common.{◌≡◌, ℕ, zero, suc, ◌+◌, ◌≤◌, ◌<◌, Bool, true, false, List, [], ◌∷◌, length, Option, Some, None, option_and_then, refl, sym, ap, subst, ◌∙◌, arith, cond, inl, inr}
+use Rattle.std.proofs.Common.{◌≡◌, ℕ, ◌≤◌, Bool, true, false, List, [], ◌∷◌, length, Option, Some, None, option_and_then, refl, sym, ap, subst, ◌∙◌, arith, cond, inl, inr}
 use Rattle.tree_model.specs.Tree.{Tree, IsTree, depth}
 use Rattle.tree_model.specs.Path.{Path}
 use Rattle.tree_model.specs.Edit.{Edit, Set, Replace, Remove, set, replace, remove, edited}
 use Rattle.tree_model.specs.Same.{same_tree}
 use Rattle.tree_model.proofs.SameLemmas.{tree_itself}
-use Rattle.binary_model.specs.Layout.{Spot, root, Container, value_end}
+use Rattle.binary_model.specs.Layout.{root, Container, value_end}
 use Rattle.binary_model.specs.Stands.{IsBytes, IsValue, Stands, max_nested}
 use Rattle.binary_model.specs.Canonical.{spelling, canonical}
-use Rattle.binary_model.specs.Change.{positions, at_holder, with_value, without_value, edited_at, Run, runs, Progress, step, replaced_by, removed_by, all_replaced, all_removed, progress, HoldTrees, SetsTrees, Change, Same, Parts, Full, stored_as, finished, change, put_all}
-use Rattle.binary_model.proofs.AgreeLemmas.{some_is}
+use Rattle.binary_model.specs.Change.{positions, at_holder, with_value, without_value, edited_at, Run, runs, Progress, step, replaced_by, removed_by, all_replaced, all_removed, progress, HoldTrees, SetsTrees, Change, Same, Parts, Full, stored_as, change, put_all}
 use Rattle.binary_model.proofs.RunLemmas.{runs_applied}
 use Rattle.binary_model.proofs.ChangeLemmas.{same_edits}
 use Rattle.binary_model.proofs.ReplaceLemmas.{Lifted}

@@ -1,12 +1,12 @@
 -- The edits of a tree by the positions that a path enters.
-use Rattle.std.proofs.Common.{◌≡◌, ℕ, zero, suc, ◌+◌, ◌-◌, ◌≤◌, ◌<◌, Bool, true, false, ◌==◌, List, [], ◌∷◌, ◌++◌, length, map, take, drop, get_or, slice_get, slice_set, remove, bytes_eq, Option, Some, None, is_some, option_map, option_and_then, unwrap_or, Ordering, Less, Equal, Greater, refl, sym, ap, ap₂, subst, ◌∙◌, arith, cond, inl, inr, ◌⊎◌}
-use Rattle.std.specs.Ordering.{match_ordering, ordering_reverse}
+use Rattle.std.proofs.Common.{◌≡◌, ℕ, zero, suc, ◌≤◌, ◌<◌, Bool, true, false, ◌==◌, List, [], ◌∷◌, ◌++◌, length, map, get_or, slice_get, slice_set, remove, bytes_eq, Option, Some, None, is_some, option_map, option_and_then, unwrap_or, Less, Equal, Greater, refl, sym, ap, subst, ◌∙◌, arith, cond, inl, inr, ◌⊎◌}
+use Rattle.std.specs.Ordering.{match_ordering}
 use Rattle.std.proofs.lemmas.Option.{slice_get_past, slice_get-get_or}
 use Rattle.std.proofs.lemmas.Bool.{cases_lt}
 use Rattle.std.proofs.lemmas.Slice.Eq.{bytes_eq-Decides}
 use Rattle.tree_model.specs.Tree.{Tree, null, boolean, number, text, array, object, Trees, no_trees, tree, tree_list, trees, Members, no_members, member, member_list, get, put, without, key_cmp, IsKey, AreMembers, IsTree, AreTrees, HoldTrees}
 use Rattle.tree_model.specs.Path.{Leg, key, cell, last, Path, from_end, itself_at, child, with_child, at_cell_set}
-use Rattle.tree_model.specs.Edit.{at_parent, altered, added, set_at, replaced, taken_out, element_out, set, replace, remove as remove_path, try_set, try_replace, try_remove}
+use Rattle.tree_model.specs.Edit.{at_parent, added, set_at, replaced, taken_out, element_out, set, replace, remove as remove_path}
 use Rattle.tree_model.proofs.TreeLemmas.{trees-tree_list}
 use Rattle.tree_model.proofs.KeyLemmas.{key_total, itself, turned}
 use Rattle.tree_model.proofs.KeyOrder.{Above, Rising, rising_from}
@@ -38,7 +38,7 @@ nth_or (tree t ts) (suc n) = nth_or ts n
 
 list_found : (ts : Trees) (n : ℕ) (v : Tree) → slice_get (tree_list ts) n ≡ Some v → (n < length (tree_list ts)) × (nth ts n ≡ v)
 list_found ts n v e = elim (cases_lt n (length (tree_list ts))) [
-  inl low ↦ (low, sym (nth_or ts n) ∙ some_is (sym (slice_get-get_or (tree_list ts) n null low) ∙ e))
+  | inl low ↦ (low, sym (nth_or ts n) ∙ some_is (sym (slice_get-get_or (tree_list ts) n null low) ∙ e))
   | inr high ↦ let none = slice_get_past (tree_list ts) n high in let no : ⊥ = cc in absurd no
 ]
 
@@ -127,24 +127,30 @@ last_step : (ts : Trees) (n : ℕ) (v : Tree) (o : Option ℕ) → from_end (len
 last_step ts n v None at e = let no : ⊥ = cc in absurd no
 last_step ts n v (Some k) at e =
     let f = list_found ts k v e in
-    inr (k, record {
-      position = ap (λ o. unwrap_or o 0 ∷ []) at;
-      low = f.0;
-      found = f.1;
-      set = λ w. ap (λ o. at_cell_set ts o w) at ∙ ap array (list_set ts k w);
-      out = ap (element_out ts) at ∙ ap (λ us. Some (array us)) (list_out ts k);
-    })
+    inr (
+      k,
+      record {
+        position = ap (λ o. unwrap_or o 0 ∷ []) at;
+        low = f.0;
+        found = f.1;
+        set = λ w. ap (λ o. at_cell_set ts o w) at ∙ ap array (list_set ts k w);
+        out = ap (element_out ts) at ∙ ap (λ us. Some (array us)) (list_out ts k);
+      },
+    )
 
 key_step : (ms : Members) (k : List ℕ) (v : Tree) → AreMembers (member_list ms) → get k ms ≡ Some v → Step (object ms) (key k) v
 key_step ms k v is e =
     let m = member_at k v ms (rising_from ms is) e in
-    inr (member_position k ms, record {
-      position = refl;
-      low = m.low;
-      found = m.found;
-      set = λ w. ap object (m.set w);
-      out = ap (λ o. cond (is_some o) (Some (object (without k ms))) None) e ∙ ap (λ ns. Some (object ns)) m.out;
-    })
+    inr (
+      member_position k ms,
+      record {
+        position = refl;
+        low = m.low;
+        found = m.found;
+        set = λ w. ap object (m.set w);
+        out = ap (λ o. cond (is_some o) (Some (object (without k ms))) None) e ∙ ap (λ ns. Some (object ns)) m.out;
+      },
+    )
 
 pub leg_step : (t : Tree) (l : Leg) (v : Tree) → IsTree t → child t l ≡ Some v → Step t l v
 leg_step null (key k) v is e = no_key null (key k) v refl e

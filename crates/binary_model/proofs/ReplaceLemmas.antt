@@ -1,25 +1,22 @@
 -- A value replaced in place: the container stands for the tree with the new value.
-use Rattle.std.proofs.Common.{◌≡◌, ℕ, zero, suc, ◌+◌, ◌-◌, ◌*◌, ◌^◌, ◌≤◌, ◌<◌, Bool, true, false, List, [], ◌∷◌, ◌++◌, length, map, slice_index, Option, Some, None, refl, sym, ap, ap₂, subst, ◌∙◌, arith, cond, nat_le, lit≤}
-use Rattle.std.specs.Option.{option_and_then}
-use Rattle.std.proofs.lemmas.Bool.{leb-true}
-use Rattle.byteorder.specs.Endian.{little_from}
+use Rattle.std.proofs.Common.{◌≡◌, ℕ, zero, suc, ◌+◌, ◌-◌, ◌^◌, ◌≤◌, ◌<◌, Bool, true, false, List, [], ◌∷◌, length, slice_index, refl, sym, ap, subst, ◌∙◌, arith, cond, lit≤}
 use Rattle.byteorder.specs.Numbers.{little_from-lt, length-bytes_low_first}
 use Rattle.tree_model.specs.Tree.{Tree, Trees, no_trees, tree, tree_list, IsTree}
-use Rattle.binary_model.specs.Layout.{Form, small, large, word, Kind, kind_of, code_of, is_inlined, Spot, kind_at, number_at, Container, container_at, count, end, header_end, values_at, entries_end, value_entry, values_floor, inlined, child, value_end, end_as, floor_after, value_width}
-use Rattle.binary_model.specs.Stands.{IsBytes, IsFrame, IsPlaced, IsValue, AreElements}
+use Rattle.binary_model.specs.Layout.{Form, small, large, word, kind_of, code_of, is_inlined, Spot, kind_at, number_at, Container, count, end, header_end, values_at, entries_end, value_entry, values_floor, inlined, child, value_end, floor_after, value_width}
+use Rattle.binary_model.specs.Stands.{IsBytes, IsPlaced, IsValue, AreElements}
 use Rattle.binary_model.specs.Place.{Holds}
-use Rattle.binary_model.specs.Canonical.{Spelling, spelling, inlined_bytes, low_bytes}
-use Rattle.binary_model.specs.Change.{written, end_before, start_from, room_start, room_end, in_entry, at_place, with_value}
-use Rattle.binary_model.proofs.AgreeLemmas.{some_is, Agree, Same, same_part, same_agree, number_agrees}
+use Rattle.binary_model.specs.Canonical.{spelling, inlined_bytes, low_bytes}
+use Rattle.binary_model.specs.Change.{written, end_before, start_from, room_start, room_end, in_entry, at_place}
+use Rattle.binary_model.proofs.AgreeLemmas.{Same, same_part, same_agree, number_agrees}
 use Rattle.binary_model.proofs.LengthLemmas.{length-inlined, fits_tree}
 use Rattle.binary_model.proofs.CanonicalLemmas.{first_held, second_held, byte_held, number_held, moved}
-use Rattle.binary_model.proofs.RoundLemmas.{stand_tree, code_again, next_entry, w4}
-use Rattle.binary_model.proofs.WrittenLemmas.{written_length, written_below, written_behind, written_holds, bytes_cons, bytes_append, bytes_written}
+use Rattle.binary_model.proofs.RoundLemmas.{stand_tree, code_again, w4}
+use Rattle.binary_model.proofs.WrittenLemmas.{written_length, written_below, written_behind, written_holds, bytes_cons, bytes_written}
 use Rattle.binary_model.proofs.ByteLemmas.{spelled_bytes, code_low, low_are_bytes, inlined_are_bytes}
-use Rattle.binary_model.proofs.StayLemmas.{bounds, inlined_spot, outside_spot, child_inlined, child_outside}
+use Rattle.binary_model.proofs.StayLemmas.{bounds, inlined_spot, child_inlined, child_outside}
 use Rattle.binary_model.proofs.AgainLemmas.{floor_low, entry_within, values_first, count_same, end_same, entry_same}
 use Rattle.binary_model.proofs.RefitLemmas.{nth, rest, rest_length, ends_rise, FoundAt, element_at, floor_up}
-use Rattle.binary_model.proofs.KidsLemmas.{kids, with_kid, Kids, to_kids, from_kids, Refits, refit}
+use Rattle.binary_model.proofs.KidsLemmas.{kids, Kids, Refits}
 
 -- the values that are left begin before the end
 pub starts_within : (bytes : List ℕ) (c : Container) (ts : Trees) (j floor : ℕ) → AreElements bytes c j floor ts → start_from bytes c (length (tree_list ts)) j ≤ end bytes c
@@ -215,13 +212,13 @@ replaced_outside xs c n r t u octets room top is e fits =
     let offset_low : place - c.at < 256 ^ word c.form = omega (arith, fits, room_same, last, size, size_low) in
     let tail : Holds mid (suc entry) offset = moved (omega arith) (second_held (code_of v.0 ∷ []) offset held) in
     let number : number_at ys (word c.form) (suc (value_entry ys c n)) ≡ place - c.at =
-        ap (λ k. number_at ys (word c.form) (suc k)) entry_eq
-        ∙ sym (number_agrees mid ys (suc entry) (suc entry) (word c.form) (same_agree mid ys 0 place (suc entry) (word c.form) below_place (omega arith) (omega (arith, entry_first))))
-        ∙ number_held mid (suc entry) (word c.form) (place - c.at) offset_low tail in
+    ap (λ k. number_at ys (word c.form) (suc k)) entry_eq
+    ∙ sym (number_agrees mid ys (suc entry) (suc entry) (word c.form) (same_agree mid ys 0 place (suc entry) (word c.form) below_place (omega arith) (omega (arith, entry_first))))
+    ∙ number_held mid (suc entry) (word c.form) (place - c.at) offset_low tail in
     let spot : Spot = record { tag = value_entry ys c n; at = place; window = end ys c } in
     let back : c.at + (place - c.at) ≡ place = omega (arith, at_above) in
     let same : child ys c n ≡ spot = child_outside ys c n inl ∙ ap (λ m. record { tag = value_entry ys c n; at = c.at + m; window = end ys c }) number
-        ∙ ap (λ m. record { tag = value_entry ys c n; at = m; window = end ys c }) back in
+    ∙ ap (λ m. record { tag = value_entry ys c n; at = m; window = end ys c }) back in
     let few : length v.1 < 2 ^ 32 = omega (arith, fits, room_same, last, size, size_low, large_low, at_above) in
     let stands = stand_tree u is ys spot kind (omega (arith, fits, room_same, last, ends)) few held_value in
     let stop = stands.1 in
