@@ -1,6 +1,6 @@
 // Numbered pages, as a mini-transaction reads and writes them.
-ghost use Rattle.std.specs.Prelude.{◌≡◌, ◌+◌, ◌≤◌, ◌<◌, ◌^◌, List, [], ◌∷◌, ℕ, length, Option, Some, IfSome, OnOk, option_map};
-ghost use Rattle.page_model.specs.Pages.{Pages, AreWhole, bytes_at, written, page_bytes};
+ghost use Rattle.std.specs.Prelude.{◌≡◌, ◌+◌, ◌≤◌, ◌<◌, ◌^◌, List, [], ◌∷◌, ℕ, length, Some, IfSome, OnOk, option_map};
+ghost use Rattle.page_model.specs.Pages.{AreWhole, bytes_at, written, page_bytes};
 ghost use Rattle.page_model.specs.Steps.{PageState, MayUse, Uses, different, write_head};
 ghost use Rattle.engine_base.specs.Faults.{HasCause, FailsPlainly};
 

@@ -1,23 +1,16 @@
 -- When a call on a list may answer that a field holds a value which isn't allowed there: it names a field that the call
 -- read, and the value that stood there as the call began.
---     IsHonest odd      the device failed, or what the fault names is odd
 --     IsOddLink      the address there is neither null nor a node's place, and this part of it is at fault
 --     IsFull, IsBare      the length lets no node in; the length says that there is none to take out
 --     IsOddAtFront, IsOddAtBack, IsOddAround      what adding a node at either end, and taking one out, may name
-use Rattle.std.specs.Prelude.{◌≡◌, ◌⊎◌, ℕ, ◌+◌, ◌<◌, ◌≤◌, ◌^◌, IfSome, Option, ⊤}
+use Rattle.std.specs.Prelude.{◌≡◌, ◌⊎◌, ℕ, ◌+◌, ◌<◌, ◌≤◌, ◌^◌, IfSome, Option}
 use Rattle.page_model.specs.Pages.{Pages, field, Address, address_at, null_page}
 use Rattle.page_model.specs.Lists.{IsLink}
 use Rattle.page_model.specs.Steps.{PageState}
+use Rattle.engine_base.specs.Faults.{Oddity}
 use Rattle.engine_base.specs.declared.fault.Fault.{Fault}
 use Rattle.engine_base.specs.declared.fault.Fault.TheVariants.{Device, Strange}
-
--- of what a fault names: a page, a place in it, and a value
-abbrev pub Oddity : Type 1
-Oddity = ℕ → ℕ → ℕ → Type 0
-
-abbrev pub IsHonest : Oddity → Fault → Type 0
-IsHonest odd Device = ⊤
-IsHonest odd (Strange page at value) = odd page.0 at value
+use Rattle.file_lists.specs.declared.layout.TheConstants.{FIRST, LAST, NEXT, GREATEST_LENGTH}
 
 -- a page that an address may have
 abbrev pub IsLinkPage : ℕ → ℕ → Type 0
@@ -49,7 +42,7 @@ pub record IsLength (told : Option Pages) (base : Address) (page at value : ℕ)
 
 pub record IsFull (told : Option Pages) (base : Address) (page at value : ℕ) : Type 0 where
   pub here : IsLength told base page at value
-  pub greatest : value ≡ 4_294_967_295
+  pub greatest : value ≡ GREATEST_LENGTH
 
 pub record IsBare (told : Option Pages) (base : Address) (page at value : ℕ) : Type 0 where
   pub here : IsLength told base page at value
@@ -57,13 +50,13 @@ pub record IsBare (told : Option Pages) (base : Address) (page at value : ℕ) :
 
 abbrev pub IsOddAtFront : PageState → Address → Oddity
 IsOddAtFront s base page at value =
-    IsFull s.told base page at value ⊎ IsOddLink s.told s.count base.page (base.at + 4) page at value
+    IsFull s.told base page at value ⊎ IsOddLink s.told s.count base.page (base.at + FIRST) page at value
 
 abbrev pub IsOddAtBack : PageState → Address → Oddity
 IsOddAtBack s base page at value =
-    IsFull s.told base page at value ⊎ IsOddLink s.told s.count base.page (base.at + 10) page at value
+    IsFull s.told base page at value ⊎ IsOddLink s.told s.count base.page (base.at + LAST) page at value
 
 abbrev pub IsOddAround : PageState → Address → Address → Oddity
 IsOddAround s base node page at value =
     IsBare s.told base page at value
-    ⊎ (IsOddLink s.told s.count node.page node.at page at value ⊎ IsOddLink s.told s.count node.page (node.at + 6) page at value)
+    ⊎ (IsOddLink s.told s.count node.page node.at page at value ⊎ IsOddLink s.told s.count node.page (node.at + NEXT) page at value)

@@ -3,14 +3,14 @@ ghost use Rattle.std.specs.Prelude.{◌≡◌, ◌+◌, ◌≤◌, ◌<◌, [], 
 ghost use Rattle.page_model.specs.Pages.{page_bytes, address_at};
 ghost use Rattle.page_model.specs.Lists.{IsNodePlace, IsBasePlace, IsLink, back_place, on_place, or_null};
 ghost use Rattle.page_model.specs.Spans.{SetsAddress};
-ghost use Rattle.page_model.specs.Steps.{MayUse, Uses, Told};
-ghost use Rattle.engine_base.specs.Faults.{HasCause, FailsPlainly};
+ghost use Rattle.page_model.specs.Steps.{MayUse, Uses, Told, write_head};
+ghost use Rattle.engine_base.specs.Faults.{HasCause, FailsPlainly, IsHonest};
 ghost use Rattle.engine_base.specs.Addresses.{address_of};
 ghost use Rattle.file_lists.specs.Links.{link_of};
-ghost use Rattle.file_lists.specs.Strange.{IsHonest, IsOddLink, NamesPart};
+ghost use Rattle.file_lists.specs.Strange.{IsOddLink, NamesPart};
 
 use crate::layout::{FIRST, LAST, LAST_PLACE, NEXT, NULL_PAGE};
-use engine_base::{Addr, Fault, PageNo, Pages, read_address, write_address};
+use engine_base::{Addr, Fault, PageNo, Pages, read_address, strange, write_address};
 
 /// The address of a node, or none, in six bytes of a page. Strange where it is neither null nor the place of a node.
 pub fn read_link<P: Pages>(p: &mut P, page: PageNo, at: u16) -> Result<Option<Addr>, Fault>
@@ -55,13 +55,6 @@ fn link(count: u32, page: PageNo, at: u16, there: Addr) -> Result<Option<Addr>, 
     Ok(Some(there))
 }
 
-// That the field there holds a value which isn't allowed.
-pub fn strange<T>(page: PageNo, at: u16, value: u64) -> Result<T, Fault>
-    ensures { result ≡ Err (Fault.Strange page at value) }
-{
-    Err(Fault::Strange { page, at, value })
-}
-
 /// Writes the address of the node, or the null address.
 pub fn write_link<P: Pages>(
     p: &mut P,
@@ -71,10 +64,10 @@ pub fn write_link<P: Pages>(
 ) -> Result<(), Fault>
     requires page { page.0 < (P.state p.old).count }
     requires within { at + 6 ≤ page_bytes }
-    requires may { MayUse (page.0 ∷ []) 0 14 (P.state p.old) }
+    requires may { MayUse (page.0 ∷ []) 0 (6 + write_head) (P.state p.old) }
     ensures sets { OnOk result (Told (SetsAddress page.0 at (or_null (link_of link)))
         (P.state p.old).told (P.state p.new).told) }
-    ensures uses { Uses P.state P.stays (page.0 ∷ []) 0 14 p.old p.new }
+    ensures uses { Uses P.state P.stays (page.0 ∷ []) 0 (6 + write_head) p.old p.new }
     ensures cause { HasCause (P.state p.old).faults (P.state p.new).faults result }
     ensures plain { FailsPlainly result }
 {
@@ -102,10 +95,10 @@ pub fn point_back<P: Pages>(
 ) -> Result<(), Fault>
     requires base { IsBasePlace (P.state p.old).count (address_of base) }
     requires from { IfSome from (λ a. IsNodePlace (P.state p.old).count (address_of a)) }
-    requires may { MayUse ((back_place (address_of base) (link_of from)).page ∷ []) 0 14 (P.state p.old) }
+    requires may { MayUse ((back_place (address_of base) (link_of from)).page ∷ []) 0 (6 + write_head) (P.state p.old) }
     ensures sets { let place = back_place (address_of base) (link_of from) in
         OnOk result (Told (SetsAddress place.page place.at (or_null (link_of to))) (P.state p.old).told (P.state p.new).told) }
-    ensures uses { Uses P.state P.stays ((back_place (address_of base) (link_of from)).page ∷ []) 0 14 p.old p.new }
+    ensures uses { Uses P.state P.stays ((back_place (address_of base) (link_of from)).page ∷ []) 0 (6 + write_head) p.old p.new }
     ensures cause { HasCause (P.state p.old).faults (P.state p.new).faults result }
     ensures plain { FailsPlainly result }
 {
@@ -124,10 +117,10 @@ pub fn point_on<P: Pages>(
 ) -> Result<(), Fault>
     requires base { IsBasePlace (P.state p.old).count (address_of base) }
     requires from { IfSome from (λ a. IsNodePlace (P.state p.old).count (address_of a)) }
-    requires may { MayUse ((on_place (address_of base) (link_of from)).page ∷ []) 0 14 (P.state p.old) }
+    requires may { MayUse ((on_place (address_of base) (link_of from)).page ∷ []) 0 (6 + write_head) (P.state p.old) }
     ensures sets { let place = on_place (address_of base) (link_of from) in
         OnOk result (Told (SetsAddress place.page place.at (or_null (link_of to))) (P.state p.old).told (P.state p.new).told) }
-    ensures uses { Uses P.state P.stays ((on_place (address_of base) (link_of from)).page ∷ []) 0 14 p.old p.new }
+    ensures uses { Uses P.state P.stays ((on_place (address_of base) (link_of from)).page ∷ []) 0 (6 + write_head) p.old p.new }
     ensures cause { HasCause (P.state p.old).faults (P.state p.new).faults result }
     ensures plain { FailsPlainly result }
 {

@@ -3,10 +3,11 @@ ghost use Rattle.std.specs.Prelude.{◌≡◌, ◌+◌, List, [], ◌∷◌, ◌
 ghost use Rattle.page_model.specs.Pages.{Pages, Address};
 ghost use Rattle.page_model.specs.Lists.{IsBasePlace, IsNodePlace, IsList, IfListed, first_of, last_of};
 ghost use Rattle.page_model.specs.Steps.{MayUse, Uses};
-ghost use Rattle.engine_base.specs.Faults.{HasCause, FailsPlainly};
+ghost use Rattle.engine_base.specs.Faults.{HasCause, FailsPlainly, IsHonest};
 ghost use Rattle.engine_base.specs.Addresses.{address_of};
+ghost use Rattle.file_lists.specs.declared.layout.TheConstants.{FIRST, LAST, NEXT};
 ghost use Rattle.file_lists.specs.Links.{link_of};
-ghost use Rattle.file_lists.specs.Strange.{IsHonest, IsOddLink};
+ghost use Rattle.file_lists.specs.Strange.{IsOddLink};
 
 use crate::layout::{FIRST, LAST, NEXT};
 use crate::links::read_link;
@@ -22,7 +23,7 @@ pub fn first<P: Pages>(p: &mut P, base: Addr) -> Result<Option<Addr>, Fault>
 
     // Strange names the address that stands there.
     ensures honest { IfErr result
-        (IsHonest (IsOddLink (P.state p.old).told (P.state p.old).count base.page.0 (base.at + 4))) }
+        (IsHonest (IsOddLink (P.state p.old).told (P.state p.old).count base.page.0 (base.at + FIRST))) }
     ensures never { IfListed (P.state p.old).told (address_of base) (λ pages nodes. FailsPlainly result) }
     ensures cause { HasCause (P.state p.old).faults (P.state p.new).faults result }
 
@@ -42,7 +43,7 @@ pub fn last<P: Pages>(p: &mut P, base: Addr) -> Result<Option<Addr>, Fault>
 
     // Strange names the address that stands there.
     ensures honest { IfErr result
-        (IsHonest (IsOddLink (P.state p.old).told (P.state p.old).count base.page.0 (base.at + 10))) }
+        (IsHonest (IsOddLink (P.state p.old).told (P.state p.old).count base.page.0 (base.at + LAST))) }
     ensures never { IfListed (P.state p.old).told (address_of base) (λ pages nodes. FailsPlainly result) }
     ensures cause { HasCause (P.state p.old).faults (P.state p.new).faults result }
 
@@ -63,7 +64,7 @@ pub fn next<P: Pages>(p: &mut P, node: Addr) -> Result<Option<Addr>, Fault>
 
     // Strange names the address that stands there.
     ensures honest { IfErr result
-        (IsHonest (IsOddLink (P.state p.old).told (P.state p.old).count node.page.0 (node.at + 6))) }
+        (IsHonest (IsOddLink (P.state p.old).told (P.state p.old).count node.page.0 (node.at + NEXT))) }
     ensures never { (pages : Pages) (base : Address) (before behind : List Address) → (P.state p.old).told ≡ Some pages
         → IsList pages base (before ++ address_of node ∷ behind) → FailsPlainly result }
     ensures cause { HasCause (P.state p.old).faults (P.state p.new).faults result }

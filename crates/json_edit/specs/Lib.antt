@@ -1,2 +1,4 @@
 pub mod Acts
 pub mod Places
+pub mod Edits
+pub mod EditCode

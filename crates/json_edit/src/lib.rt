@@ -6,8 +6,12 @@ mod action;
 mod children;
 mod edit;
 mod lookup;
+mod pairs;
+mod statement;
 #[cfg(test)]
 mod tests;
 
 pub use edit::{remove, replace, set};
 pub use lookup::find;
+pub use pairs::{Edit, Pair, Pairs, Paths};
+pub use statement::edit_all;

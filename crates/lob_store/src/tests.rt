@@ -51,7 +51,7 @@ fn outcome(rt: &HostRuntime, case: &Case) -> Result<(Status, Vec<u8>), Fail> {
 
 #[test]
 fn scripts_and_their_transcripts(rt: HostRuntime) -> Result<(), Fail> {
-    let cases: [(&[u8], &[u8]); 6] = [
+    let cases: [(&[u8], &[u8]); 7] = [
         (b"", b""),
         (b"# nothing\n\n\r\n", b""),
         (
@@ -70,12 +70,113 @@ fn scripts_and_their_transcripts(rt: HostRuntime) -> Result<(), Fail> {
             b"s1 get 9\n",
             b"1 s1 start 1\n2 s1 view 0\n3 s1 did 1 none\n",
         ),
+        // A delete commits, and a change that is refused or alters nothing does not.
+        (
+            b"s1 insert 1 1\ns1 set 1 [\"$\",1]\ns1 set 2 [\"$\",1]\ns1 set 1 [\"$[1]\",2]\ns1 delete 1\ns1 get 1\n",
+            b"1 s1 start 1\n2 s1 did 1 ok full\n3 s1 commit 1\n4 s1 start 2\n5 s1 did 2 same\n6 s1 start 3\n7 s1 did 3 err missing\n8 s1 start 4\n9 s1 did 4 ok full\n10 s1 commit 2\n11 s1 start 5\n12 s1 did 5 ok\n13 s1 commit 3\n14 s1 start 6\n15 s1 view 3\n16 s1 did 6 none\n",
+        ),
     ];
     for (script, transcript) in cases {
         let (status, taken) = outcome(&rt, &whole(script))?;
         assert_eq!(rt; status, Status::Done);
         assert_eq!(rt; taken.as_slice(), transcript);
     }
+    Ok(())
+}
+
+const X: &[u8] = b"s1 insert 1 {\"a\":1000,\"b\":\"wxyz\",\"c\":\"[1, 3, 5, 7]\"}\n";
+
+// What each statement is answered, in the order of the lines: the words behind `did N`.
+fn replies(rt: &HostRuntime, transcript: &[u8]) -> Result<Vec<u8>, Fail> {
+    let mut replies = Vec::new(rt.alloc());
+    for line in transcript.split(|byte| *byte == b'\n') {
+        let text = str::from_utf8(line)?;
+        if let Some((_, rest)) = text.split_once(" did ") {
+            if let Some((_, reply)) = rest.split_once(' ') {
+                replies.extend_from_slice(reply.as_bytes())?;
+                replies.push(b'\n')?;
+            }
+        }
+    }
+    Ok(replies)
+}
+
+#[test]
+fn replies_to_changes(rt: HostRuntime) -> Result<(), Fail> {
+    let cases: [(&[u8], &[u8]); 8] = [
+        (
+            b"s1 set 1 [\"$.d\",1]\ns1 replace 1 [\"$.e\",1]\ns1 remove 1 [\"$.e\"]\ns1 set 1 [\"$.a\",1000]\ns1 insert 1 1\n",
+            b"ok full\nok full\nsame\nsame\nsame\nerr exists\n",
+        ),
+        (
+            b"s1 set 9 [\"$\",1]\ns1 get 9\ns1 delete 9\ns1 remove 9 [\"$.a\"]\n",
+            b"ok full\nerr missing\nnone\nerr missing\nerr missing\n",
+        ),
+        // Pairs are made from left to right, each on what the one before left.
+        (
+            b"s1 set 1 [\"$.b\",[],\"$.b[0]\",7,\"$.b[9]\",8,\"$.a[1]\",2]\ns1 get 1\n",
+            b"ok full\nok full\ndoc {\"a\": [1000, 2], \"b\": [7, 8], \"c\": \"[1, 3, 5, 7]\"}\n",
+        ),
+        // Pairs that come back to where they began change nothing.
+        (
+            b"s1 set 1 [\"$.a\",1,\"$.a\",1000]\ns1 get 1\n",
+            b"ok full\nsame\ndoc {\"a\": 1000, \"b\": \"wxyz\", \"c\": \"[1, 3, 5, 7]\"}\n",
+        ),
+        (
+            b"s1 remove 1 [\"$.c\",\"$.a\"]\ns1 replace 1 [\"$.b\",\"a\"]\ns1 get 1\n",
+            b"ok full\nok full\nok full\ndoc {\"b\": \"a\"}\n",
+        ),
+        // Behind a delete the number is free again.
+        (
+            b"s1 delete 1\ns1 get 1\ns1 insert 1 2\ns1 get 1\n",
+            b"ok full\nok\nnone\nok full\ndoc 2\n",
+        ),
+        // The root, and positions on a value that is no list.
+        (
+            b"s1 set 1 [\"$\",1]\ns1 set 1 [\"$[last-3]\",9]\ns1 set 1 [\"$[1]\",2]\ns1 set 1 [\"$[last]\",3]\ns1 get 1\n",
+            b"ok full\nok full\nsame\nok full\nok full\ndoc [1, 3]\n",
+        ),
+        (
+            b"s1 set 1 [\"$\",1]\ns1 set 1 [\"$[0]\",5]\ns1 get 1\n",
+            b"ok full\nok full\nok full\ndoc 5\n",
+        ),
+    ];
+    for (changes, wanted) in cases {
+        let mut script = Vec::from_slice(rt.alloc(), X)?;
+        script.extend_from_slice(changes)?;
+        let (status, taken) = outcome(&rt, &whole(&script))?;
+        assert_eq!(rt; status, Status::Done);
+        let given = replies(&rt, &taken)?;
+        assert_eq!(rt; given.as_slice(), wanted);
+    }
+    Ok(())
+}
+
+// `[` a hundred times, a number, and `]` as often.
+fn nested(rt: &HostRuntime, depth: usize) -> Result<Vec<u8>, Fail> {
+    let mut text = Vec::new(rt.alloc());
+    text.resize(depth, b'[')?;
+    text.push(b'1')?;
+    text.resize(2 * depth + 1, b']')?;
+    Ok(text)
+}
+
+#[test]
+fn a_change_that_nests_too_deep_leaves_the_document(rt: HostRuntime) -> Result<(), Fail> {
+    let mut script = Vec::from_slice(rt.alloc(), b"s1 insert 1 {\"a\":0}\ns1 set 1 [\"$.a\",")?;
+    script.extend_from_slice(&nested(&rt, 99)?)?;
+    script.extend_from_slice(b"]\ns1 set 1 [\"$.a\",[")?;
+    script.extend_from_slice(&nested(&rt, 98)?)?;
+    script.extend_from_slice(b"],\"$.b\",[],\"$.b[0]\",")?;
+    script.extend_from_slice(&nested(&rt, 99)?)?;
+    script.extend_from_slice(b"]\ns1 remove 1 [\"$.a\"]\ns1 get 1\n")?;
+    let (status, taken) = outcome(&rt, &whole(&script))?;
+    assert_eq!(rt; status, Status::Done);
+    let given = replies(&rt, &taken)?;
+    assert_eq!(rt;
+        given.as_slice(),
+        b"ok full\nok full\nerr deep\nok full\ndoc {}\n".as_slice()
+    );
     Ok(())
 }
 

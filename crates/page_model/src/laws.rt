@@ -1,5 +1,5 @@
 // Laws on pages as lists of bytes. Each is a function with nothing to do, whose clause a proof may cite.
-ghost use Rattle.std.specs.Prelude.{◌≡◌, ℕ, ◌+◌, ◌<◌, ◌≤◌, ◌^◌, List, [], ◌∷◌, length, map};
+ghost use Rattle.std.specs.Prelude.{◌≡◌, ℕ, ◌<◌, ◌^◌, List, [], ◌∷◌, map};
 ghost use Rattle.byteorder.specs.Endian.{big_bytes};
 ghost use Rattle.page_model.specs.Pages.{Pages, Fits, AllFit, AreWhole, field, written, Write, all_written, Address};
 ghost use Rattle.page_model.specs.Spans.{Span, span, span_of, IsApart, IsApartFromAll, AreApart, SameOutside};

@@ -1,29 +1,21 @@
 -- What the calls on the map may answer.
---     IsHonest odd      the device failed, or what the fault names is odd
 --     IsCount      the fault names the count of free pages
 --     IsOddCount, IsSpentOrOdd, IsRaisedOrNotUsed      what reserving, taking and giving back may name
 --     AnswersReserve, IsHonestRefusal      when a reservation is made, and when it is refused
 --     HasSpaceCause      Device comes only where the count of faults rose
-use Rattle.std.specs.Prelude.{◌≡◌, ◌⊎◌, ℕ, ◌+◌, ◌%◌, ◌<◌, ◌≤◌, IfSome, Option, Result, Ok, Err, ⊤}
+use Rattle.std.specs.Prelude.{◌≡◌, ◌⊎◌, ℕ, ◌+◌, ◌%◌, ◌<◌, ◌≤◌, IfSome, Option, Result, Ok, Err}
 use Rattle.std.specs.Int.{bit_at}
 use Rattle.page_model.specs.Pages.{Pages, field}
-use Rattle.engine_base.specs.Faults.{Rose}
-use Rattle.engine_base.specs.declared.fault.Fault.{Fault}
-use Rattle.engine_base.specs.declared.fault.Fault.TheVariants.{Device, Strange}
+use Rattle.engine_base.specs.Faults.{Rose, Oddity, IsHonest}
+use Rattle.engine_base.specs.declared.fault.Fault.TheVariants.{Device}
 use Rattle.page_space.specs.declared.error.SpaceError.{SpaceError}
 use Rattle.page_space.specs.declared.error.SpaceError.TheVariants.{Full, Fault as Failed}
+use Rattle.page_space.specs.declared.layout.TheConstants.{FREE_PAGES}
 use Rattle.page_space.specs.Map.{free_of, IsUsed, place_of}
-
-abbrev pub Oddity : Type 1
-Oddity = ℕ → ℕ → ℕ → Type 0
-
-abbrev pub IsHonest : Oddity → Fault → Type 0
-IsHonest odd Device = ⊤
-IsHonest odd (Strange page at value) = odd page.0 at value
 
 pub record IsCount (told : Option Pages) (page at value : ℕ) : Type 0 where
   pub same_page : page ≡ 0
-  pub same_place : at ≡ 62
+  pub same_place : at ≡ FREE_PAGES
   pub reads : IfSome told (λ pages. value ≡ free_of pages)
 
 -- more pages are counted as free than there are

@@ -7,6 +7,7 @@ use Rattle.std.specs.Prelude.{◌≡◌, ◌≢◌, ℕ, zero, suc, ◌+◌, ◌
 use Rattle.std.specs.Int.{bit_at}
 use Rattle.page_model.specs.Pages.{Pages, byte, field}
 use Rattle.page_model.specs.Spans.{Span, span, SameOutside}
+use Rattle.page_space.specs.declared.layout.TheConstants.{FREE_PAGES, MAP, MAP_BYTES}
 
 -- as many pages as the map has bits for
 abbrev pub most_pages : ℕ
@@ -19,7 +20,7 @@ pub record IsSize (count : ℕ) : Type 0 where
 
 -- the byte of the map in which page k has its bit
 abbrev pub place_of : ℕ → ℕ
-place_of k = 128 + k / 8
+place_of k = MAP + k / 8
 
 abbrev pub bit : Pages → ℕ → ℕ
 bit pages k = bit_at (byte pages 0 (place_of k)) (k % 8)
@@ -36,7 +37,7 @@ zeros pages (suc n) = zeros pages n + (1 - bit pages n)
 
 -- the count of free pages
 abbrev pub free_of : Pages → ℕ
-free_of pages = field pages 0 62 4
+free_of pages = field pages 0 FREE_PAGES 4
 
 pub record IsMap (pages : Pages) : Type 0 where
   pub size : IsSize (length pages)
@@ -45,7 +46,7 @@ pub record IsMap (pages : Pages) : Type 0 where
 
 -- the bytes that a map rests on
 abbrev pub map_spans : List Span
-map_spans = span 0 62 4 ∷ span 0 128 4_096 ∷ []
+map_spans = span 0 FREE_PAGES 4 ∷ span 0 MAP MAP_BYTES ∷ []
 
 -- pages are told and have a map, and Q holds of them
 abbrev pub IfMapped : Option Pages → (Pages → Type 0) → Type 0
@@ -55,7 +56,7 @@ IfMapped told Q = (pages : Pages) → told ≡ Some pages → IsMap pages → Q 
 pub record SetsBit (page value : ℕ) (old new : Pages) : Type 0 where
   pub here : bit new page ≡ value
   pub others : (k : ℕ) → k ≢ page → bit new k ≡ bit old k
-  pub outside : SameOutside (span 0 62 4 ∷ span 0 (place_of page) 1 ∷ []) old new
+  pub outside : SameOutside (span 0 FREE_PAGES 4 ∷ span 0 (place_of page) 1 ∷ []) old new
 
 -- the lowest free page was taken
 pub record TakesPage (page : ℕ) (old new : Pages) : Type 0 where

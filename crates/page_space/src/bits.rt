@@ -1,6 +1,7 @@
 // The bits of a byte of the map, and the lowest that is 0. The lowest bit of a byte comes first.
 ghost use Rattle.std.specs.Prelude.{◌≡◌, ◌*◌, ◌<◌, ◌≤◌, ◌==◌, length, IfSome, IfNone};
 ghost use Rattle.std.specs.Int.{bit_at};
+ghost use Rattle.page_space.specs.declared.layout.TheConstants.{MAP_BYTES};
 ghost use Rattle.page_space.specs.Bits.{ChangesBit, AreOnes, IsLowestZero};
 
 /// Whether the bit is 1.
@@ -29,7 +30,7 @@ pub fn without_bit(byte: u8, i: u32) -> u8
 
 /// The lowest bit below `n` that is 0.
 pub fn lowest_zero(map: &[u8], n: u32) -> Option<u32>
-    requires map { length map.now ≤ 4_096 }
+    requires map { length map.now ≤ MAP_BYTES }
     requires within { n ≤ 8 * length map.now }
     ensures some { IfSome result (IsLowestZero map.now n) }
     ensures none { IfNone result (AreOnes map.now n) }

@@ -1,14 +1,15 @@
 // The count of free pages, and the map's lowest free page, read and judged.
 ghost use Rattle.std.specs.Prelude.{◌≡◌, ℕ, ◌*◌, ◌/◌, ◌<◌, ◌≤◌, [], ◌∷◌, length, slice_index, IfOk, IfErr, IfSome, IfNone};
 ghost use Rattle.page_model.specs.Steps.{MayUse, Uses};
-ghost use Rattle.engine_base.specs.Faults.{HasCause, FailsPlainly};
+ghost use Rattle.engine_base.specs.Faults.{HasCause, FailsPlainly, IsHonest};
+ghost use Rattle.page_space.specs.declared.layout.TheConstants.{MAP_BYTES};
 ghost use Rattle.page_space.specs.Bits.{AreOnes, IsLowestZero};
 ghost use Rattle.page_space.specs.Map.{IsSize, IfMapped, IsLowestFree, IsUsed, free_of};
-ghost use Rattle.page_space.specs.Answers.{IsHonest, IsOddCount};
+ghost use Rattle.page_space.specs.Answers.{IsOddCount};
 
 use crate::bits::lowest_zero;
 use crate::layout::{FREE_PAGES, MAP, MAP_BYTES, SYSTEM};
-use engine_base::{Fault, Pages, read_field};
+use engine_base::{Fault, Pages, read_field, strange};
 
 /// How many pages are free. Strange where that is more than there are.
 pub fn free_pages<P: Pages>(p: &mut P) -> Result<u32, Fault>
@@ -25,20 +26,9 @@ pub fn free_pages<P: Pages>(p: &mut P) -> Result<u32, Fault>
     let count = p.count();
     let free = read_field(p, SYSTEM, FREE_PAGES, 4)?;
     if free > u64::from(count) {
-        return strange(FREE_PAGES, free);
+        return strange(SYSTEM, FREE_PAGES, free);
     }
     Ok(free as u32)
-}
-
-// That the field there holds a value which isn't allowed.
-pub fn strange<T>(at: u16, value: u64) -> Result<T, Fault>
-    ensures { result ≡ Err (Fault.Strange SYSTEM at value) }
-{
-    Err(Fault::Strange {
-        page: SYSTEM,
-        at,
-        value,
-    })
 }
 
 /// A free page, and the byte of the map that has its bit.
@@ -70,7 +60,7 @@ pub fn lowest_free<P: Pages>(p: &mut P) -> Result<Option<Found>, Fault>
 
 // The lowest free page of a map.
 fn lowest_in(map: &[u8], count: u32) -> Option<Found>
-    requires map { length map.now ≤ 4_096 }
+    requires map { length map.now ≤ MAP_BYTES }
     requires within { count ≤ 8 * length map.now }
     ensures some { IfSome result (λ f. IsLowestZero map.now count f.page × (f.byte ≡ slice_index map.now (f.page / 8))) }
     ensures none { IfNone result (AreOnes map.now count) }

@@ -48,6 +48,8 @@ pub const MAP: u16 = COMMITTED_LOGS + 30;
 
 pub const MAP_BYTES: usize = 4_096;
 
+const _: () = prove!(NEXT == 12);
+
 const _: () = prove!(TYPE == 24);
 
 const _: () = prove!(NEXT_TRX_ID == 38);
@@ -74,3 +76,5 @@ pub const NULL_PAGE: u64 = 0xffff_ffff;
 pub const FIRST: u16 = 4;
 
 pub const LAST: u16 = FIRST + 6;
+
+const _: () = prove!(LAST == 10);

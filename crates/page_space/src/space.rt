@@ -1,15 +1,15 @@
 // Pages reserved, taken and given back.
-ghost use Rattle.std.specs.Prelude.{◌≡◌, ◌+◌, ◌-◌, ◌<◌, ◌≤◌, [], ◌∷◌, IfOk, IfErr, OnOk, OnErr};
-ghost use Rattle.page_model.specs.Steps.{MayUse, Uses, Becomes};
-ghost use Rattle.engine_base.specs.Faults.{HasCause, FailsPlainly};
+ghost use Rattle.std.specs.Prelude.{◌≡◌, ◌+◌, ◌-◌, ◌*◌, ◌<◌, ◌≤◌, [], ◌∷◌, IfOk, IfErr, OnOk, OnErr};
+ghost use Rattle.page_model.specs.Steps.{MayUse, Uses, Becomes, write_head};
+ghost use Rattle.engine_base.specs.Faults.{HasCause, FailsPlainly, IsHonest};
 ghost use Rattle.page_space.specs.Map.{IsSize, IfMapped, IsUsed, TakesPage, GivesPage, free_of};
-ghost use Rattle.page_space.specs.Answers.{AnswersReserve, HasSpaceCause, IsHonest, IsHonestRefusal, IsOddCount, IsSpentOrOdd, IsRaisedOrNotUsed};
+ghost use Rattle.page_space.specs.Answers.{AnswersReserve, HasSpaceCause, IsHonestRefusal, IsOddCount, IsSpentOrOdd, IsRaisedOrNotUsed};
 
 use crate::SpaceError;
 use crate::bits::{is_set, with_bit, without_bit};
-use crate::count::{free_pages, lowest_free, strange};
+use crate::count::{free_pages, lowest_free};
 use crate::layout::{FREE_PAGES, MAP, SYSTEM};
-use engine_base::{Fault, PageNo, Pages, read_field, write_field};
+use engine_base::{Fault, PageNo, Pages, read_field, strange, write_field};
 use std::marker::Model;
 
 /// How many free pages are promised and not yet taken. It is seen as that number.
@@ -87,7 +87,7 @@ impl Space {
     pub fn take<P: Pages>(&mut self, p: &mut P) -> Result<PageNo, Fault>
         requires one { 1 ≤ self.old }
         requires size { IsSize (P.state p.old).count }
-        requires may { MayUse (0 ∷ []) 0 21 (P.state p.old) }
+        requires may { MayUse (0 ∷ []) 0 (5 + 2 * write_head) (P.state p.old) }
         ensures takes { IfMapped (P.state p.old).told (λ pages. self.old ≤ free_of pages
             → IfOk result (λ page. Becomes (P.state p.new).told (λ new.
             TakesPage page.0 pages new × (self.new ≤ free_of new)))) }
@@ -101,14 +101,14 @@ impl Space {
         ensures never { IfMapped (P.state p.old).told (λ pages. self.old ≤ free_of pages → FailsPlainly result) }
         ensures cause { HasCause (P.state p.old).faults (P.state p.new).faults result }
 
-        ensures uses { Uses P.state P.stays (0 ∷ []) 0 21 p.old p.new }
+        ensures uses { Uses P.state P.stays (0 ∷ []) 0 (5 + 2 * write_head) p.old p.new }
     {
         let free = free_pages(p)?;
         if free == 0 {
-            return strange(FREE_PAGES, 0);
+            return strange(SYSTEM, FREE_PAGES, 0);
         }
         let Some(found) = lowest_free(p)? else {
-            return strange(FREE_PAGES, u64::from(free));
+            return strange(SYSTEM, FREE_PAGES, u64::from(free));
         };
         let byte = with_bit(found.byte, found.page % 8);
         write_field(p, SYSTEM, MAP + (found.page / 8) as u16, 1, u64::from(byte))?;
@@ -121,7 +121,7 @@ impl Space {
     pub fn give<P: Pages>(&mut self, p: &mut P, page: PageNo) -> Result<(), Fault>
         requires page { page.0 < (P.state p.old).count }
         requires size { IsSize (P.state p.old).count }
-        requires may { MayUse (0 ∷ []) 0 21 (P.state p.old) }
+        requires may { MayUse (0 ∷ []) 0 (5 + 2 * write_head) (P.state p.old) }
         ensures gives { IfMapped (P.state p.old).told (λ pages. IsUsed pages page.0
             → OnOk result (Becomes (P.state p.new).told (GivesPage page.0 pages))) }
         ensures reserved { self.new ≡ self.old }
@@ -132,17 +132,17 @@ impl Space {
         ensures never { IfMapped (P.state p.old).told (λ pages. IsUsed pages page.0 → FailsPlainly result) }
         ensures cause { HasCause (P.state p.old).faults (P.state p.new).faults result }
 
-        ensures uses { Uses P.state P.stays (0 ∷ []) 0 21 p.old p.new }
+        ensures uses { Uses P.state P.stays (0 ∷ []) 0 (5 + 2 * write_head) p.old p.new }
     {
         let count = p.count();
         let free = free_pages(p)?;
         if free >= count {
-            return strange(FREE_PAGES, u64::from(free));
+            return strange(SYSTEM, FREE_PAGES, u64::from(free));
         }
         let at = MAP + (page.0 / 8) as u16;
         let byte = read_field(p, SYSTEM, at, 1)?;
         if !is_set(byte as u8, page.0 % 8) {
-            return strange(at, byte);
+            return strange(SYSTEM, at, byte);
         }
         let byte = without_bit(byte as u8, page.0 % 8);
         write_field(p, SYSTEM, at, 1, u64::from(byte))?;

@@ -1,8 +1,9 @@
 // The system page of a new store.
 ghost use Rattle.std.specs.Prelude.{◌≡◌, ◌+◌, ◌<◌, ◌≤◌, ◌^◌, [], ◌∷◌, length, replicate, OnOk};
 ghost use Rattle.page_model.specs.Pages.{page_bytes};
+ghost use Rattle.page_model.specs.Lists.{base_size};
 ghost use Rattle.page_model.specs.Spans.{SetsField};
-ghost use Rattle.page_model.specs.Steps.{MayUse, Uses, Told};
+ghost use Rattle.page_model.specs.Steps.{MayUse, Uses, Told, write_head};
 ghost use Rattle.engine_base.specs.Faults.{HasCause, FailsPlainly};
 ghost use Rattle.page_space.specs.Map.{IsSize};
 ghost use Rattle.page_space.specs.System.{IsSystemPage, MakesSystem, BaresBase};
@@ -18,9 +19,9 @@ use engine_base::{Fault, Pages};
 /// transaction id is 1. One write of 16,384 bytes, which are laid out on the stack first.
 pub fn make_system<P: Pages>(p: &mut P) -> Result<(), Fault>
     requires size { IsSize (P.state p.old).count }
-    requires may { MayUse (0 ∷ []) 0 16_392 (P.state p.old) }
+    requires may { MayUse (0 ∷ []) 0 (page_bytes + write_head) (P.state p.old) }
     ensures makes { OnOk result (Told MakesSystem (P.state p.old).told (P.state p.new).told) }
-    ensures uses { Uses P.state P.stays (0 ∷ []) 0 16_392 p.old p.new }
+    ensures uses { Uses P.state P.stays (0 ∷ []) 0 (page_bytes + write_head) p.old p.new }
     ensures cause { HasCause (P.state p.old).faults (P.state p.new).faults result }
     ensures plain { FailsPlainly result }
 {
@@ -52,7 +53,7 @@ fn fill_system(page: &mut [u8], pages: u32)
 #[tactic(auto, using(crate::proofs::SystemLemmas::bared))]
 fn bare(page: &mut [u8], base: u16)
     requires len { length page.old ≡ page_bytes }
-    requires within { base + 16 ≤ page_bytes }
+    requires within { base + base_size ≤ page_bytes }
     ensures { BaresBase base (page.old ∷ []) (page.new ∷ []) }
 {
     put(page, base + FIRST, 4, NULL_PAGE);

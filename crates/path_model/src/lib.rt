@@ -3,4 +3,4 @@
 
 mod texts;
 
-pub use texts::{row_faults, row_printed};
+pub use texts::{faults_in_quotes, row_faults, row_printed};

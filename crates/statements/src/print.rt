@@ -2,9 +2,9 @@
 ghost use Rattle.std.specs.Prelude.{◌≡◌, ◌++◌, ◌∷◌, OnOk, OnErr, decimal};
 ghost use Rattle.journal_model.specs.Print as spec;
 ghost use Rattle.json_tree.specs.Writing.{Extends};
-ghost use Rattle.statements.specs.Entries.{reply_of, entry_of};
+ghost use Rattle.statements.specs.Entries.{reply_of, undoer_of, audit_of, entry_of};
 
-use crate::{Entry, Reply};
+use crate::{Audit, Entry, Reply, Undoer, Who};
 use engine_base::SessionNo;
 use std::alloc::AllocError;
 
@@ -23,9 +23,12 @@ fn push_reply(out: &mut Vec<u8>, reply: &Reply) -> Result<(), AllocError>
     ensures kept { Extends out.old.items out.new.items }
 {
     match reply {
+        Reply::Missing => out.extend_from_slice(b"err missing"),
         Reply::Exists => out.extend_from_slice(b"err exists"),
+        Reply::Same => out.extend_from_slice(b"same"),
         Reply::Deep => out.extend_from_slice(b"err deep"),
         Reply::Full => out.extend_from_slice(b"ok full"),
+        Reply::Done => out.extend_from_slice(b"ok"),
         Reply::Doc(text) => {
             out.extend_from_slice(b"doc ")?;
             out.extend_from_slice(text)
@@ -59,6 +62,48 @@ fn push_answer(out: &mut Vec<u8>, statement: u32, reply: &Reply) -> Result<(), A
 }
 
 #[tactic(auto, using(crate::proofs::Growth::extends_more, crate::proofs::Growth::extends_on, crate::proofs::Growth::extends_itself))]
+fn push_words(out: &mut Vec<u8>, words: &[u8], number: u64) -> Result<(), AllocError>
+    ensures ok { OnOk result (out.new.items ≡ out.old.items ++ (words.now ++ decimal number)) }
+    ensures kept { Extends out.old.items out.new.items }
+{
+    out.extend_from_slice(words)?;
+    push_number(out, number)
+}
+
+fn undoer_word(by: Undoer) -> &'static [u8]
+    ensures { result.now ≡ spec.undoer_text (undoer_of by) }
+{
+    match by {
+        Undoer::Rollback => b"rollback",
+        Undoer::Deadlock => b"deadlock",
+        Undoer::End => b"end",
+    }
+}
+
+#[tactic(auto, using(crate::proofs::Growth::extends_more, crate::proofs::Growth::extends_on, crate::proofs::Growth::extends_itself))]
+fn push_audit(out: &mut Vec<u8>, audit: Audit) -> Result<(), AllocError>
+    ensures ok { OnOk result (out.new.items ≡ out.old.items ++ spec.audit_text (audit_of audit)) }
+    ensures kept { Extends out.old.items out.new.items }
+{
+    match audit {
+        Audit::Report {
+            docs,
+            lobs,
+            pieces,
+            versions,
+        } => {
+            push_words(out, b"docs ", docs)?;
+            push_words(out, b" lobs ", lobs)?;
+            push_words(out, b" pieces ", pieces)?;
+            push_words(out, b" versions ", versions)?;
+            Ok(())
+        }
+        Audit::Busy(Who::Session(session)) => push_words(out, b"busy s", session.0 as u64),
+        Audit::Busy(Who::Purge) => out.extend_from_slice(b"busy purge"),
+    }
+}
+
+#[tactic(auto, using(crate::proofs::Growth::extends_more, crate::proofs::Growth::extends_on, crate::proofs::Growth::extends_itself))]
 fn push_entry(out: &mut Vec<u8>, entry: &Entry) -> Result<(), AllocError>
     ensures ok { OnOk result (out.new.items ≡ out.old.items ++ spec.entry_text (entry_of entry.now)) }
     ensures kept { Extends out.old.items out.new.items }
@@ -72,6 +117,16 @@ fn push_entry(out: &mut Vec<u8>, entry: &Entry) -> Result<(), AllocError>
             push_said(out, *session, b" view ")?;
             push_number(out, commits.0)
         }
+        Entry::Wait {
+            session,
+            document,
+            holder,
+        } => {
+            push_said(out, *session, b" wait ")?;
+            push_number(out, document.0 as u64)?;
+            push_words(out, b" s", holder.0 as u64)?;
+            Ok(())
+        }
         Entry::Did {
             session,
             statement,
@@ -84,6 +139,16 @@ fn push_entry(out: &mut Vec<u8>, entry: &Entry) -> Result<(), AllocError>
             push_said(out, *session, b" commit ")?;
             push_number(out, number.0)
         }
+        Entry::Undone { session, by } => {
+            push_said(out, *session, b" undone ")?;
+            out.extend_from_slice(undoer_word(*by))
+        }
+        Entry::Purged { number } => push_words(out, b"purged ", number.0),
+        Entry::Audited(audit) => {
+            out.extend_from_slice(b"audit ")?;
+            push_audit(out, *audit)
+        }
+        Entry::Restart { commits } => push_words(out, b"restart ", commits.0),
     }
 }
 

@@ -2,6 +2,7 @@
 ghost use Rattle.std.specs.Prelude.{◌≤◌, vec_len};
 
 use engine_base::DocId;
+use json_edit::Edit;
 use json_tree::Json;
 
 /// One request of a session, made by itself: a change commits, and a read takes a view of its own.
@@ -9,6 +10,10 @@ use json_tree::Json;
 pub enum Statement {
     /// Puts a document where none stands.
     Insert(DocId, Json),
+    /// Edits a document.
+    Change(DocId, Edit),
+    /// Takes a document out.
+    Delete(DocId),
     /// Shows a document.
     Get(DocId),
 }

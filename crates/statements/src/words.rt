@@ -4,10 +4,20 @@ ghost use Rattle.std.specs.List.{list_any};
 ghost use Rattle.journal_model.specs.ScriptText.{begins_with, is_marked, first_word, behind, is_space, document_number, session_number, form_of, runs_on};
 ghost use Rattle.statements.specs.Forms.{form_view};
 
+/// The edits, by their word.
+#[derive(Clone, Copy, Debug)]
+pub enum EditWord {
+    Set,
+    Replace,
+    Remove,
+}
+
 /// The forms of a statement, by its word.
 #[derive(Clone, Copy, Debug)]
 pub enum Form {
     Insert,
+    Change(EditWord),
+    Delete,
     Get,
 }
 
@@ -17,8 +27,8 @@ impl Form {
         ensures { (rest : List ℕ) → result && list_any is_space rest ≡ runs_on (form_view self) rest }
     {
         match self {
-            Form::Insert => false,
-            Form::Get => true,
+            Form::Insert | Form::Change(_) => false,
+            Form::Delete | Form::Get => true,
         }
     }
 }
@@ -87,6 +97,10 @@ pub fn form_of(word: &str) -> Option<Form>
 {
     match word {
         "insert" => Some(Form::Insert),
+        "set" => Some(Form::Change(EditWord::Set)),
+        "replace" => Some(Form::Change(EditWord::Replace)),
+        "remove" => Some(Form::Change(EditWord::Remove)),
+        "delete" => Some(Form::Delete),
         "get" => Some(Form::Get),
         _ => None,
     }

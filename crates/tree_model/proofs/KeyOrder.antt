@@ -1,5 +1,5 @@
 -- Members that are put in one after another by their bytes, and then in key order.
-use Rattle.std.proofs.Common.{◌≡◌, ℕ, false, List, length, refl, sym, ap, ◌∙◌, Ordering, Less, Equal, Greater, is_eq, true≢false, nat_cmp}
+use Rattle.std.proofs.Common.{◌≡◌, ℕ, false, List, refl, sym, ap, ◌∙◌, Ordering, Less, Equal, Greater, is_eq, true≢false}
 pub use Rattle.tree_model.proofs.KeyLemmas.{key_total, itself, turned, same_key, key_equal}
 use Rattle.tree_model.specs.Tree.{Tree, Members, no_members, member, member_list, put, key_cmp, AreMembers}
 

@@ -8,5 +8,5 @@ use Rattle.lob_store.proofs.answer.answer_get.Goals as goal
 pub returns-clause-steps : goal.returns-clause-steps
 returns-clause-steps c o script n at is there number =
     let items : c.enter-3.new.journal.items ≡ c.args.state.now.journal.items ++ Start (record { 0 = 1 }) c.args.statement ∷ View (record { 0 = 1 }) (record { 0 = c.args.state.now.commits }) ∷ Did (record { 0 = 1 }) c.args.statement c.shown-reply.result ∷ [] = grind (arith, common_steps) in
-    read_made o script _ _ n c.args.statement c.args.document.0 c.args.state.now.documents c.args.state.now.commits at there number
-    is c.shown-reply.result c.shown-reply.ensures (ap entries_of items ∙ entries_append _ _)
+    read_made o script _ _ n c.args.statement c.args.state.now.documents c.args.state.now.commits at there number
+    c.args.document.0 is c.shown-reply.result c.shown-reply.ensures (ap entries_of items ∙ entries_append _ _)
