@@ -11,6 +11,7 @@ use Rattle.binary_model.specs.Stands.{truth_byte, IsLiteral, IsFrame, AreKeys, I
 use Rattle.binary_model.specs.Canonical.{low_bytes, number_kind, width_of, groups, measured, inlined_bytes, behind, all_behind, value_entries, values_behind, key_entries, joined, entries_size, size_in, form_for, header, keys, spelling, spellings, member_spellings, canonical}
 use Rattle.binary_model.proofs.LengthLemmas.{length-inlined, length-value_entries, length-key_entries, length-header, length-array_bytes, length-object_bytes, length-number, fits_tree, fit_trees, fit_members, length-keys}
 use Rattle.binary_model.specs.Place.{Holds}
+use Rattle.binary_model.proofs.StandLemmas.{values}
 use Rattle.binary_model.proofs.CanonicalLemmas.{first_held, second_held, byte_held, number_held, range_held, moved, number_stands, text_stands, text_ranged}
 
 -- ---- codes
@@ -40,7 +41,7 @@ number_code : (z : ℤ) → kind_of (code_of (number_kind z)) ≡ number_kind z
 number_code (pos n) = pos_code (nat_lt n (2 ^ 63)) (nat_lt n (2 ^ 15)) (nat_lt n (2 ^ 31))
 number_code (negsuc n) = signed_code_again (nat_lt n (2 ^ 15)) (nat_lt n (2 ^ 31))
 
-code_again : (t : Tree) → kind_of (code_of (spelling t).0) ≡ (spelling t).0
+pub code_again : (t : Tree) → kind_of (code_of (spelling t).0) ≡ (spelling t).0
 unfolding kind_of
 code_again null = refl
 code_again (boolean b) = refl
@@ -51,7 +52,7 @@ code_again (object ms) = object_code (form_for true (length (joined (keys ms))) 
 
 -- ---- values of a container
 
-abbrev StandsAt : Tree → Type 0
+abbrev pub StandsAt : Tree → Type 0
 StandsAt t = (bytes : List ℕ) (s : Spot) → kind_at bytes s.tag ≡ (spelling t).0 → s.at + length (spelling t).1 ≤ s.window → length (spelling t).1 < 2 ^ 32 → Holds bytes s.at (spelling t).1
     → IsValue bytes t s × (value_end bytes s ≡ s.at + length (spelling t).1)
 
@@ -70,10 +71,10 @@ record Walk (bytes : List ℕ) (c : Container) (size : ℕ) (ts : Trees) (k offs
   pub within : offset + all_behind c.form (map measured (spellings ts)) ≤ size
   pub above : floor ≤ c.at + offset
 
-next_entry : (bytes : List ℕ) (c : Container) (k : ℕ) → value_entry bytes c k + 1 + word c.form ≡ value_entry bytes c (suc k)
+pub next_entry : (bytes : List ℕ) (c : Container) (k : ℕ) → value_entry bytes c k + 1 + word c.form ≡ value_entry bytes c (suc k)
 next_entry bytes c k = omega arith
 
-w4 : (form : Form) → word form ≤ 4
+pub w4 : (form : Form) → word form ≤ 4
 w4 small = lit≤ tt
 w4 large = lit≤ tt
 
@@ -280,10 +281,6 @@ keys_last bytes c size (key ∷ ks) k offset floor w e =
 
 -- ---- objects
 
-abbrev values : Members → Trees
-values no_members = no_trees
-values (member k t ms) = tree t (values ms)
-
 spelled_values : (ms : Members) → spellings (values ms) ≡ member_spellings ms
 spelled_values no_members = refl
 spelled_values (member k t ms) = ap (λ vs. spelling t ∷ vs) (spelled_values ms)
@@ -296,7 +293,7 @@ spelled_members : (ms : Members) → length (spellings (values ms)) ≡ length (
 spelled_members no_members = refl
 spelled_members (member k t ms) = ap suc (spelled_members ms)
 
-hold_back : (bytes : List ℕ) (c : Container) (k floor : ℕ) (ms : Members) → AreElements bytes c k floor (values ms) → HoldValues bytes c k floor ms
+pub hold_back : (bytes : List ℕ) (c : Container) (k floor : ℕ) (ms : Members) → AreElements bytes c k floor (values ms) → HoldValues bytes c k floor ms
 hold_back bytes c k floor no_members a = tt
 hold_back bytes c k floor (member l t ms) a = (a.0, a.1, hold_back bytes c (suc k) (floor_after bytes c k floor) ms a.2)
 
@@ -395,7 +392,7 @@ number_end bytes s (pos n) kind = ap (λ k. end_as bytes k s) kind ∙ pos_end b
 number_end bytes s (negsuc n) kind = ap (λ k. end_as bytes k s) kind ∙ signed_end bytes s (nat_lt n (2 ^ 15)) (nat_lt n (2 ^ 31))
 
 mutual
-  stand_tree : (t : Tree) → IsTree t → StandsAt t
+  pub stand_tree : (t : Tree) → IsTree t → StandsAt t
   stand_tree null a = λ bytes s kind fits few held. literal_stands 0 bytes s kind fits held
   stand_tree (boolean b) a = λ bytes s kind fits few held. literal_stands (truth_byte b) bytes s kind fits held
   stand_tree (number z) a = λ bytes s kind fits few held.

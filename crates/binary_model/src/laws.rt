@@ -8,7 +8,7 @@ ghost use Rattle.binary_model.specs.Canonical.{canonical, canonical_length, numb
 ghost use Rattle.binary_model.specs.FirstFault.{first_fault};
 ghost use Rattle.binary_model.specs.Place.{Holds};
 ghost use Rattle.binary_model.specs.Cursor.{BothFound, find_spot};
-ghost use Rattle.binary_model.specs.Change.{Progress, progress, put_all, runs};
+ghost use Rattle.binary_model.specs.Change.{Progress, progress, put_all, put_back, runs, Run, Parts, change, SetsTrees, AreMaximal, differing, places_apart};
 
 /// The length is that of the canonical encoding.
 #[tactic(auto, using(crate::proofs::LengthLemmas::measured_length))]
@@ -49,6 +49,20 @@ pub fn runs_give_the_new()
         put_all (runs old new) old ≡ new }
 {}
 
+/// Put back over the new one, they give the old one.
+#[tactic(auto, using(crate::proofs::MaximalLemmas::runs_put_back))]
+pub fn runs_give_the_old()
+    ensures { (old new : List ℕ) → length old ≡ length new →
+        put_back (runs old new) new ≡ old }
+{}
+
+/// They are the maximal runs of places that differ, in rising order, and have as many places as differ.
+pub fn runs_are_maximal()
+    ensures maximal { (old new : List ℕ) → length old ≡ length new →
+        AreMaximal old new (runs old new) }
+    ensures places { (old new : List ℕ) → differing (runs old new) ≡ places_apart old new }
+{}
+
 /// A canonical number stands wherever its bytes do.
 #[tactic(auto, using(crate::proofs::CanonicalLemmas::number_stands))]
 pub fn numbers_stand()
@@ -83,4 +97,12 @@ pub fn no_proper_prefix()
 #[tactic(auto, using(crate::proofs::ChangeLemmas::same_edits))]
 pub fn change_follows_the_tree()
     ensures { (edit : Edit) (p : Progress) → (progress edit p).«tree» ≡ edited edit p.«tree» }
+{}
+
+/// The bytes that a change in place leaves stand for the edited tree, and are as many as before.
+pub fn edits_stand()
+    ensures { (bytes : List ℕ) (t : Tree) (edit : Edit) (rs : List Run) → IsBytes bytes →
+        Stands bytes t → SetsTrees edit → depth (edited edit t) ≤ max_nested →
+        change bytes t edit ≡ Parts rs →
+        Stands (put_all rs bytes) (edited edit t) × (length (put_all rs bytes) ≡ length bytes) }
 {}

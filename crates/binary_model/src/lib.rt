@@ -5,9 +5,9 @@ mod laws;
 mod rows;
 
 pub use laws::{
-    canonical_encodings_stand, canonical_has_length, change_follows_the_tree, no_proper_prefix,
-    numbers_stand, paths_in_place, read_stands, runs_give_the_new, stands_for_one, stands_read,
-    texts_stand,
+    canonical_encodings_stand, canonical_has_length, change_follows_the_tree, edits_stand,
+    no_proper_prefix, numbers_stand, paths_in_place, read_stands, runs_are_maximal,
+    runs_give_the_new, runs_give_the_old, stands_for_one, stands_read, texts_stand,
 };
 pub use rows::{
     row_change, row_edges, row_encoded, row_faults, row_keys, row_kinds, row_long, row_need,
