@@ -1,7 +1,7 @@
 -- A node put in at either end, call by call.
-use Rattle.std.proofs.Common.{◌≡◌, inl, inr, ℕ, ◌+◌, ◌<◌, ◌≤◌, List, [], ◌∷◌, ◌++◌, length, map, Option, Some, None, refl, sym, ap, subst, lit≤, ◌∙◌, arith}
+use Rattle.std.proofs.Common.{◌≡◌, ℕ, ◌+◌, List, [], ◌∷◌, ◌++◌, length, Option, Some, subst}
 use Rattle.page_model.specs.Pages.{Pages, Address, null_address}
-use Rattle.page_model.specs.Spans.{IsApartFromAll, SameOutside, SetsAddress, SetsField}
+use Rattle.page_model.specs.Spans.{IsApartFromAll, SetsAddress, SetsField}
 use Rattle.page_model.specs.Lists.{IsNodePlace, IsList, first_of, last_of, or_null, back_place, on_place, list_spans, node_span}
 use Rattle.page_model.specs.Steps.{PageState, Uses, Told, Becomes}
 use Rattle.page_model.proofs.StepLemmas.{uses_within, uses_other, uses_nowhere, told_step, within_one, within_two}

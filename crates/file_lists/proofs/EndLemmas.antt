@@ -1,8 +1,8 @@
 -- A node put behind the last of a list.
-use Rattle.std.proofs.Common.{◌≡◌, inl, inr, ℕ, ◌+◌, ◌≤◌, List, [], ◌∷◌, ◌++◌, length, map, Option, Some, None, sym, ap, subst, ◌∙◌, arith}
+use Rattle.std.proofs.Common.{◌≡◌, inl, inr, ℕ, ◌+◌, ◌≤◌, List, [], ◌∷◌, ◌++◌, length, map, Option, sym, ap, subst, ◌∙◌, arith}
 use Rattle.std.proofs.lemmas.List.{map-append, length-append}
 use Rattle.page_model.specs.Pages.{Pages, Address, address_at, null_address}
-use Rattle.page_model.specs.Spans.{Span, span, IsOffAll, IsApart, IsApartFromAll, AreApart, ArePairwiseApart, SameOutside, SetsField, SetsAddress}
+use Rattle.page_model.specs.Spans.{Span, span, IsOffAll, IsApart, IsApartFromAll, ArePairwiseApart, SameOutside, SetsField, SetsAddress}
 use Rattle.page_model.specs.Lists.{IsNodePlace, IsWalk, IsList, list_spans, base_span, node_span, last_or, last_of, or_null, on_place}
 use Rattle.page_model.proofs.FrameLemmas.{off_part, off_parts, outside_wider}
 use Rattle.page_model.proofs.ListLemmas.{place_kept, walk_kept}

@@ -1,7 +1,7 @@
 -- What a read link is, where a list is told.
-use Rattle.std.proofs.Common.{◌≡◌, ℕ, ◌+◌, ◌<◌, ◌≤◌, List, [], ◌∷◌, ◌++◌, length, Option, Some, None, Result, Ok, Err, IfSome, IfOk, IfErr, IsErr, IsErrAnd, refl, sym, ap, subst, ◌∙◌, arith}
+use Rattle.std.proofs.Common.{◌≡◌, ℕ, ◌+◌, ◌<◌, List, ◌∷◌, ◌++◌, length, Option, Some, None, Result, Ok, Err, IfSome, IfOk, IsErr, IsErrAnd, sym, subst, ◌∙◌, arith}
 use Rattle.page_model.specs.Pages.{Pages, Address, address_at, AreWhole, null_address}
-use Rattle.page_model.specs.Lists.{IsNodePlace, IsLink, IsList, IfListed, first_of, last_of, or_null}
+use Rattle.page_model.specs.Lists.{IsNodePlace, IsLink, IsList, first_of, last_of, or_null}
 use Rattle.page_model.proofs.WalkLemmas.{same_link, link_allowed, first_place, first_null, walk_split}
 use Rattle.page_model.proofs.UnlinkLemmas.{last_place, last_link}
 use Rattle.engine_base.specs.Faults.{FailsPlainly}

@@ -1,9 +1,9 @@
 -- A node taken out, call by call.
-use Rattle.std.proofs.Common.{◌≡◌, ℕ, ◌+◌, ◌-◌, ◌<◌, ◌≤◌, List, [], ◌∷◌, ◌++◌, length, Option, Some, None, refl, sym, ap, subst, ◌∙◌, arith}
+use Rattle.std.proofs.Common.{◌≡◌, ℕ, ◌+◌, ◌-◌, List, [], ◌∷◌, ◌++◌, length, Option, Some, subst, arith}
 use Rattle.std.proofs.lemmas.List.{length-append}
 use Rattle.page_model.specs.Pages.{Pages, Address}
-use Rattle.page_model.specs.Spans.{SameOutside, SetsAddress, SetsField}
-use Rattle.page_model.specs.Lists.{IsList, first_of, last_of, or_null, back_place, on_place, list_spans}
+use Rattle.page_model.specs.Spans.{SetsAddress, SetsField}
+use Rattle.page_model.specs.Lists.{IsList, first_of, last_of, or_null, back_place, on_place}
 use Rattle.page_model.specs.Steps.{PageState, Uses, Told, Becomes}
 use Rattle.page_model.proofs.StepLemmas.{uses_within, uses_other, uses_nowhere, told_step, within_one, within_two}
 use Rattle.page_model.proofs.UnlinkLemmas.{removed}

@@ -3,7 +3,7 @@
 --     IsOddLink      the address there is neither null nor a node's place, and this part of it is at fault
 --     IsFull, IsBare      the length lets no node in; the length says that there is none to take out
 --     IsOddAtFront, IsOddAtBack, IsOddAround      what adding a node at either end, and taking one out, may name
-use Rattle.std.specs.Prelude.{◌≡◌, ◌⊎◌, ℕ, ◌+◌, ◌<◌, ◌≤◌, ◌^◌, IfSome, Option}
+use Rattle.std.specs.Prelude.{◌≡◌, ◌⊎◌, ℕ, ◌+◌, ◌<◌, IfSome, Option}
 use Rattle.page_model.specs.Pages.{Pages, field, Address, address_at, null_page}
 use Rattle.page_model.specs.Lists.{IsLink}
 use Rattle.page_model.specs.Steps.{PageState}

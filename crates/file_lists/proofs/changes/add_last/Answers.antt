@@ -1,4 +1,4 @@
-use Rattle.std.proofs.Common.{ℕ, ◌≡◌, inl, inr, Option, Some, Ok, lit≤, ◌∙◌, [], ◌∷◌}
+use Rattle.std.proofs.Common.{◌≡◌, Ok, lit≤, ◌∙◌, [], ◌∷◌}
 use Rattle.page_model.specs.Pages.{field}
 use Rattle.page_model.specs.Lists.{last_of}
 use Rattle.page_model.proofs.StepLemmas.{may_within, may_other, uses_at_most, within_one, within_two}

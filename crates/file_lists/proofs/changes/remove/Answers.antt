@@ -1,6 +1,6 @@
-use Rattle.std.proofs.Common.{ℕ, ◌≡◌, ◌++◌, Option, Some, Ok, IfSome, subst, length, lit≤, ap, ◌∙◌, sym, arith, [], ◌∷◌}
-use Rattle.page_model.specs.Pages.{Pages, field}
-use Rattle.page_model.specs.Lists.{IsNodePlace, first_of, last_of}
+use Rattle.std.proofs.Common.{◌≡◌, Ok, lit≤, ◌∙◌, [], ◌∷◌}
+use Rattle.page_model.specs.Pages.{field}
+use Rattle.page_model.specs.Lists.{first_of, last_of}
 use Rattle.page_model.proofs.StepLemmas.{may_within, may_other, uses_at_most, within_one, within_two}
 use Rattle.engine_base.specs.Addresses.{address_of}
 use Rattle.file_lists.specs.Links.{link_of}
