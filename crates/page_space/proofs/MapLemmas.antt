@@ -1,18 +1,16 @@
 -- A map under the writes of a bit and of the count, and its free pages counted.
-use Rattle.std.proofs.Common.{◌≡◌, ◌≢◌, ◌⊎◌, inl, inr, ℕ, zero, suc, ◌+◌, ◌-◌, ◌*◌, ◌/◌, ◌%◌, ◌^◌, ◌<◌, ◌≤◌, ◌==◌, Bool, true, false, List, [], ◌∷◌, length, take, drop, get_or, Option, Some, None, IfSome, IfNone, refl, sym, ap, ap₂, subst, ◌∙◌, arith}
+use Rattle.std.proofs.Common.{◌≡◌, ◌≢◌, inl, inr, ℕ, zero, suc, ◌+◌, ◌-◌, ◌*◌, ◌/◌, ◌%◌, ◌<◌, ◌≤◌, ◌==◌, Bool, true, false, List, [], ◌∷◌, length, drop, get_or, Option, Some, None, IfSome, IfNone, refl, sym, ap, ap₂, subst, ◌∙◌, arith}
 use Rattle.std.specs.Int.{bit_at}
 use Rattle.std.proofs.lemmas.Bool.{cases_eq, cases_lt, eq-eqb}
 use Rattle.std.proofs.lemmas.List.{get_or-drop, get_or-take}
-use Rattle.std.proofs.lemmas.Nat.Bits.{bit_at-lt}
-use Rattle.byteorder.specs.Endian.{big_from, big_number}
-use Rattle.page_model.specs.Pages.{Pages, AreWhole, page_at, byte, bytes_at, field}
+use Rattle.page_model.specs.Pages.{Pages, page_at, byte, bytes_at, field}
 use Rattle.page_model.specs.Spans.{Span, span, IsOff, IsApartFromAll, SameOutside, SetsField}
 use Rattle.page_model.specs.Steps.{Told, Becomes}
 use Rattle.page_model.proofs.FrameLemmas.{field_kept, apart_off, outside_then, outside_wider}
 use Rattle.page_model.proofs.StepLemmas.{told_step}
 use Rattle.page_space.specs.declared.count.Found.{Found}
 use Rattle.page_space.specs.Bits.{ChangesBit, map_bit, AreOnes, IsLowestZero}
-use Rattle.page_space.specs.Map.{IsSize, place_of, bit, IsUsed, IsFree, zeros, free_of, IsMap, map_spans, SetsBit, TakesPage, GivesPage, IsLowestFree, most_pages}
+use Rattle.page_space.specs.Map.{IsSize, place_of, bit, IsUsed, IsFree, zeros, free_of, IsMap, SetsBit, TakesPage, GivesPage, IsLowestFree, most_pages}
 
 -- ---- bytes and bits
 

@@ -1,18 +1,18 @@
 -- The system page laid out field by field, and what it means.
-use Rattle.std.proofs.Common.{◌≡◌, ◌≢◌, inl, inr, ℕ, zero, suc, ◌+◌, ◌-◌, ◌*◌, ◌/◌, ◌%◌, ◌^◌, ◌<◌, ◌≤◌, List, [], ◌∷◌, ◌++◌, length, take, drop, get_or, replicate, Option, Some, None, refl, sym, ap, ap₂, subst, lit≤, ◌∙◌, arith}
+use Rattle.std.proofs.Common.{◌≡◌, inl, inr, ℕ, zero, suc, ◌+◌, ◌-◌, ◌*◌, ◌/◌, ◌%◌, ◌^◌, ◌<◌, ◌≤◌, List, [], ◌∷◌, length, drop, get_or, replicate, Option, Some, None, refl, sym, ap, ap₂, subst, lit≤, ◌∙◌, arith}
 use Rattle.std.specs.Int.{bit_at}
 use Rattle.std.specs.Option.{option_map}
 use Rattle.std.proofs.lemmas.Bool.{cases_eq, cases_lt}
 use Rattle.std.proofs.lemmas.List.{ext_get_or, get_or-drop, get_or_past, get_or-replicate, length-replicate}
 use Rattle.std.proofs.lemmas.Nat.Bits.{bit_at-zero, bit_at_above}
-use Rattle.byteorder.specs.Endian.{big_from, big_number, big_bytes}
+use Rattle.byteorder.specs.Endian.{big_from, big_bytes}
 use Rattle.page_model.specs.Pages.{Pages, AreWhole, Fits, page_at, byte, field, patched, written, Address, address_at, null_address, null_page, page_bytes}
-use Rattle.page_model.specs.Spans.{Span, span, IsOffAll, IsApartFromAll, SameOutside, SetsField}
+use Rattle.page_model.specs.Spans.{span, IsApartFromAll, SameOutside, SetsField}
 use Rattle.page_model.specs.Lists.{IsList}
 use Rattle.page_model.specs.Steps.{Told}
 use Rattle.page_model.proofs.FrameLemmas.{field_set, field_kept, apart_off, outside_then, length-patched, get_or-patched_here, page_at-written, written_outside}
-use Rattle.page_space.specs.Map.{IsSize, most_pages, place_of, bit, IsUsed, IsFree, zeros, free_of, IsMap}
-use Rattle.page_space.specs.System.{IsSystemPage, IsBare, BaresBase, MakesSystem, system_spans, in_system}
+use Rattle.page_space.specs.Map.{IsSize, most_pages, bit, zeros}
+use Rattle.page_space.specs.System.{IsSystemPage, BaresBase, MakesSystem, system_spans, in_system}
 use Rattle.page_space.proofs.MapLemmas.{field-byte}
 
 -- ---- one page alone

@@ -3,7 +3,7 @@
 --     IsOddCount, IsSpentOrOdd, IsRaisedOrNotUsed      what reserving, taking and giving back may name
 --     AnswersReserve, IsHonestRefusal      when a reservation is made, and when it is refused
 --     HasSpaceCause      Device comes only where the count of faults rose
-use Rattle.std.specs.Prelude.{◌≡◌, ◌⊎◌, ℕ, ◌+◌, ◌%◌, ◌<◌, ◌≤◌, IfSome, Option, Result, Ok, Err}
+use Rattle.std.specs.Prelude.{◌≡◌, ◌⊎◌, ℕ, ◌%◌, ◌<◌, ◌≤◌, IfSome, Option, Result, Ok, Err}
 use Rattle.std.specs.Int.{bit_at}
 use Rattle.page_model.specs.Pages.{Pages, field}
 use Rattle.engine_base.specs.Faults.{Rose, Oddity, IsHonest}

@@ -1,4 +1,4 @@
-use Rattle.std.proofs.Common.{◌≡◌, ◌<◌, ◌+◌, ◌*◌, ℕ, get_or, subst, sym, arith}
+use Rattle.std.proofs.Common.{◌<◌, ◌+◌, ◌*◌, ℕ, get_or, subst, sym, arith}
 use Rattle.page_space.specs.Bits.{IsLowestZero}
 use Rattle.page_space.proofs.BitLemmas.{ones_more, zero_found, zero_beyond}
 use Rattle.page_space.proofs.bits.lowest_zero.Goals as goal

@@ -1,5 +1,4 @@
-use Rattle.std.proofs.Common.{◌≡◌, ◌∙◌, arith}
-use Rattle.page_model.specs.Pages.{field}
+use Rattle.std.proofs.Common.{◌≡◌, arith}
 use Rattle.page_space.specs.Map.{free_of}
 use Rattle.page_space.proofs.MapLemmas.{at_told, count_within}
 use Rattle.page_space.proofs.count.free_pages.Goals as goal

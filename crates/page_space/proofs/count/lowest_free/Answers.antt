@@ -1,4 +1,4 @@
-use Rattle.std.proofs.Common.{◌∙◌, refl, arith}
+use Rattle.std.proofs.Common.{refl, arith}
 use Rattle.page_space.proofs.MapLemmas.{map_there, found_read, nothing_read}
 use Rattle.page_space.proofs.count.lowest_free.Goals as goal
 

@@ -1,14 +1,13 @@
-use Rattle.std.proofs.Common.{ℕ, ◌≡◌, ◌+◌, ◌-◌, ◌/◌, ◌%◌, ◌<◌, ◌≤◌, Option, Some, IfSome, IfNone, lit≤, ap, sym, subst, ◌∙◌, [], ◌∷◌, length, arith}
+use Rattle.std.proofs.Common.{ℕ, ◌≡◌, ◌%◌, ◌<◌, lit≤, ap, sym, subst, ◌∙◌, [], ◌∷◌, length, arith}
 use Rattle.std.specs.Int.{bit_at}
 use Rattle.page_model.specs.Pages.{field}
 use Rattle.page_model.specs.Spans.{SetsField}
 use Rattle.page_model.specs.Steps.{Told}
 use Rattle.page_model.proofs.StepLemmas.{may_within, uses_at_most}
-use Rattle.page_space.specs.declared.count.Found.{Found}
 use Rattle.page_space.specs.Bits.{ChangesBit}
-use Rattle.page_space.specs.Map.{free_of, place_of, IsLowestFree, IsUsed}
+use Rattle.page_space.specs.Map.{free_of, place_of}
 use Rattle.page_space.proofs.UseLemmas.{uses_more}
-use Rattle.page_space.proofs.MapLemmas.{at_told, count_below, count_none, field-byte, is_one, takes, gives}
+use Rattle.page_space.proofs.MapLemmas.{at_told, count_below, field-byte, is_one, gives}
 use Rattle.page_space.proofs.space.Space.give.Goals as goal
 
 pub read_field-requires-clause-may : goal.read_field-requires-clause-may

@@ -1,14 +1,12 @@
-use Rattle.std.proofs.Common.{ℕ, ◌≡◌, ◌+◌, ◌-◌, ◌/◌, ◌%◌, ◌<◌, ◌≤◌, Option, Some, IfSome, IfNone, lit≤, ap, sym, subst, ◌∙◌, [], ◌∷◌, length, arith}
-use Rattle.std.specs.Int.{bit_at}
-use Rattle.page_model.specs.Pages.{field}
+use Rattle.std.proofs.Common.{ℕ, ◌≡◌, ◌%◌, ◌<◌, Option, IfSome, IfNone, lit≤, sym, subst, ◌∙◌, [], ◌∷◌, length, arith}
 use Rattle.page_model.specs.Spans.{SetsField}
 use Rattle.page_model.specs.Steps.{Told}
 use Rattle.page_model.proofs.StepLemmas.{may_within, uses_at_most}
 use Rattle.page_space.specs.declared.count.Found.{Found}
 use Rattle.page_space.specs.Bits.{ChangesBit}
-use Rattle.page_space.specs.Map.{free_of, place_of, IsLowestFree, IsUsed}
+use Rattle.page_space.specs.Map.{free_of, IsLowestFree, IsUsed}
 use Rattle.page_space.proofs.UseLemmas.{uses_more}
-use Rattle.page_space.proofs.MapLemmas.{at_told, count_below, count_none, field-byte, is_one, takes, gives}
+use Rattle.page_space.proofs.MapLemmas.{at_told, count_none, takes}
 use Rattle.page_space.proofs.space.Space.take.Goals as goal
 
 pub lowest_free-requires-clause-may : goal.lowest_free-requires-clause-may
