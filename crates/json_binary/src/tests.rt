@@ -1,5 +1,5 @@
 //! Documents of the format, worked by hand, and what is refused.
-use crate::{DecodeError, EncodeError, container_in, decode, encode, member, root, used};
+use crate::{DecodeError, container_in, decode, encode, member, root, used};
 use json_tree::{Json, List, Text, Whole, from_text};
 use std::alloc::{AllocError, Global};
 use std::test::Fail;
@@ -109,18 +109,6 @@ fn at_most_100_containers_are_nested(rt: HostRuntime) -> Result<(), Fail> {
         Ok(_) => assert!(rt; false, "read"),
         Err(found) => assert_eq!(rt; found, DecodeError::Deep(701)),
     }
-    Ok(())
-}
-
-#[test]
-fn a_document_has_at_most_16777216_bytes(rt: HostRuntime) -> Result<(), Fail> {
-    let mut out = Vec::new(rt.alloc());
-    let most = Json::Text(Text::new("u".repeat(rt.alloc(), 16_777_211)?));
-    assert_eq!(rt; encode(&most, &mut out), Ok(()));
-    assert_eq!(rt; out.len(), 16_777_216);
-    let more = Json::Text(Text::new("u".repeat(rt.alloc(), 16_777_212)?));
-    assert_eq!(rt; encode(&more, &mut out), Err(EncodeError::Large));
-    assert_eq!(rt; out.len(), 16_777_216);
     Ok(())
 }
 
