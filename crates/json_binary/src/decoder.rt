@@ -148,9 +148,10 @@ fn read_elements(
     requires array { container.keyed ≡ false }
     ensures { Gives (λ list. list) result (values_of nesting bytes.now (container_of container)) }
 {
-    let mut list = List::new(alloc);
+    let count = container.count(bytes);
+    let mut list = List::with_capacity(alloc, count)?;
     let mut floor = container.entries_end(bytes);
-    for k in 0..container.count(bytes) {
+    for k in 0..count {
         let spot = entered_value(bytes, container, k, floor)?;
         let found = read_value(alloc, bytes, spot, nesting)?;
         list.push(found.value)?;
@@ -178,13 +179,13 @@ fn read_members(
     ensures { Gives (λ members. members) result
         (members_of keys.items (values_of nesting bytes.now (container_of container))) }
 {
-    let mut members = Members::new(alloc);
+    let mut members = Members::with_capacity(alloc, keys.len())?;
     let mut floor = container.values_floor(bytes);
     let mut k = 0;
     for key in keys {
         let spot = entered_value(bytes, container, k, floor)?;
         let found = read_value(alloc, bytes, spot, nesting)?;
-        members.put(key, found.value)?;
+        members.push(key, found.value)?;
         if !container.inlines(bytes, spot.tag) {
             floor = found.end;
         }

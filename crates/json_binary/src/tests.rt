@@ -1,7 +1,7 @@
 //! Documents of the format, worked by hand, and what is refused.
 use crate::{DecodeError, container_in, decode, encode, member, root, used};
 use json_tree::{Json, List, Text, Whole, from_text};
-use std::alloc::Global;
+use std::alloc::{AllocError, Global};
 use std::test::Fail;
 
 /// `{"a":1000,"b":"wxyz","c":"[1, 3, 5, 7]"}`
@@ -59,7 +59,7 @@ fn scalars_have_their_narrowest_type(rt: HostRuntime) -> Result<(), Fail> {
 
 #[test]
 fn the_first_check_that_fails_is_answered(rt: HostRuntime) -> Result<(), Fail> {
-    let cases: [(&[u8], DecodeError); 9] = [
+    let cases: [(&[u8], DecodeError); 10] = [
         (&[], DecodeError::Truncated(0)),
         (&[0, 1, 0], DecodeError::Truncated(1)),
         (&[5, 1], DecodeError::Truncated(1)),
@@ -69,6 +69,12 @@ fn the_first_check_that_fails_is_answered(rt: HostRuntime) -> Result<(), Fail> {
         (&[4, 0, 0], DecodeError::Trailing(2)),
         (&[12, 1, 255], DecodeError::BadUtf8(2)),
         (&[2, 1, 0, 7, 0, 12, 6, 0], DecodeError::BadOffset(5)),
+        (
+            &[
+                0, 2, 0, 20, 0, 18, 0, 1, 0, 19, 0, 1, 0, 4, 0, 0, 4, 0, 0, b'b', b'a',
+            ],
+            DecodeError::KeyOrder(9),
+        ),
     ];
     for (bytes, error) in cases {
         match decode(rt.alloc(), bytes) {
@@ -78,6 +84,31 @@ fn the_first_check_that_fails_is_answered(rt: HostRuntime) -> Result<(), Fail> {
     }
     let thousand = decode(rt.alloc(), &[5, 0xe8, 3])?;
     assert!(rt; thousand.same(&Json::Number(Whole::from_u64(1000))));
+    Ok(())
+}
+
+// An empty array with so many others around it.
+fn nested(alloc: Global, around: u8) -> Result<Vec<u8>, AllocError> {
+    let mut bytes = Vec::new(alloc);
+    bytes.push(2)?;
+    for inside in (0..around).rev() {
+        let size = 11 + 7 * u16::from(inside);
+        bytes.extend_from_slice(&[1, 0])?;
+        bytes.extend_from_slice(&size.to_le_bytes())?;
+        bytes.extend_from_slice(&[2, 7, 0])?;
+    }
+    bytes.extend_from_slice(&[0, 0, 4, 0])?;
+    Ok(bytes)
+}
+
+#[test]
+fn at_most_100_containers_are_nested(rt: HostRuntime) -> Result<(), Fail> {
+    let tree = decode(rt.alloc(), &nested(rt.alloc(), 99)?)?;
+    assert_eq!(rt; tree.depth(), 100);
+    match decode(rt.alloc(), &nested(rt.alloc(), 100)?) {
+        Ok(_) => assert!(rt; false, "read"),
+        Err(found) => assert_eq!(rt; found, DecodeError::Deep(701)),
+    }
     Ok(())
 }
 
