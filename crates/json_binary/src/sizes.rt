@@ -5,7 +5,7 @@
 //! outer one before those in it, and a second pass writes.
 ghost use Rattle.std.specs.Prelude.{◌≡◌, ◌+◌, ◌*◌, ◌≤◌, ◌++◌, ℕ, List, [], map, length, IfOk, OnOk};
 ghost use Rattle.tree_model.specs.Tree as tree;
-ghost use Rattle.tree_model.specs.Tree.{trees, members};
+ghost use Rattle.tree_model.specs.Tree.{trees, members, IsTree, AreTrees, HoldTrees};
 ghost use Rattle.binary_model.specs.Layout as layout;
 ghost use Rattle.binary_model.specs.Canonical as canonical;
 ghost use Rattle.json_tree.specs.View.{tree_of, pair_of};
@@ -49,6 +49,7 @@ pub struct Behind {
 pub fn measure(tree: &Json, plan: &mut Vec<Extent>) -> Result<Measured, AllocError>
     ensures measured { IfOk result (IsMeasured (tree_of tree.now)) }
     ensures plan { OnOk result (plan.new.items ≡ plan.old.items ++ extents (tree_of tree.now)) }
+    ensures is_tree { OnOk result (IsTree (tree_of tree.now)) }
 {
     match tree {
         Json::List(list) => measure_array(list.as_slice(), plan),
@@ -59,7 +60,8 @@ pub fn measure(tree: &Json, plan: &mut Vec<Extent>) -> Result<Measured, AllocErr
 
 /// Measures a scalar; a container is none.
 pub fn measure_scalar(tree: &Json) -> Measured
-    ensures { extents (tree_of tree.now) ≡ [] → IsMeasured (tree_of tree.now) result }
+    ensures measured { extents (tree_of tree.now) ≡ [] → IsMeasured (tree_of tree.now) result }
+    ensures is_tree { extents (tree_of tree.now) ≡ [] → IsTree (tree_of tree.now) }
 {
     match tree {
         Json::Number(whole) => {
@@ -71,7 +73,7 @@ pub fn measure_scalar(tree: &Json) -> Measured
         }
         Json::Text(text) => Measured {
             kind: Kind::Text,
-            size: text.len().saturating_add(group_count(text.len(), 5)),
+            size: text.as_str().len().saturating_add(group_count(text.len(), 5)),
         },
         _ => Measured {
             kind: Kind::Literal,
@@ -85,6 +87,7 @@ fn measure_array(items: &[Json], plan: &mut Vec<Extent>) -> Result<Measured, All
     ensures measured { IfOk result (IsMeasured (tree.array (trees (map tree_of items.now)))) }
     ensures plan { OnOk result (plan.new.items ≡ plan.old.items
         ++ extents (tree.array (trees (map tree_of items.now)))) }
+    ensures are_trees { OnOk result (AreTrees (trees (map tree_of items.now))) }
 {
     let slot = plan.len();
     plan.push(UNKNOWN)?;
@@ -103,6 +106,7 @@ fn measure_object(items: &[Member], plan: &mut Vec<Extent>) -> Result<Measured, 
     ensures measured { IfOk result (IsMeasured (tree.object (members (map pair_of items.now)))) }
     ensures plan { OnOk result (plan.new.items ≡ plan.old.items
         ++ extents (tree.object (members (map pair_of items.now)))) }
+    ensures hold_trees { OnOk result (HoldTrees (members (map pair_of items.now))) }
 {
     let slot = plan.len();
     plan.push(UNKNOWN)?;
@@ -128,6 +132,7 @@ fn measure_elements(items: &[Json], plan: &mut Vec<Extent>) -> Result<Behind, Al
     ensures behind { IfOk result (IsBehind (canonical.measures (trees (map tree_of items.now)))) }
     ensures plan { OnOk result (plan.new.items ≡ plan.old.items
         ++ all_extents (trees (map tree_of items.now))) }
+    ensures are_trees { OnOk result (AreTrees (trees (map tree_of items.now))) }
 {
     let mut behind = Behind { small: 0, large: 0 };
     for item in items {
@@ -142,6 +147,7 @@ fn measure_members(items: &[Member], plan: &mut Vec<Extent>) -> Result<Behind, A
     ensures behind { IfOk result (IsBehind (canonical.member_measures (members (map pair_of items.now)))) }
     ensures plan { OnOk result (plan.new.items ≡ plan.old.items
         ++ member_extents (members (map pair_of items.now))) }
+    ensures hold_trees { OnOk result (HoldTrees (members (map pair_of items.now))) }
 {
     let mut behind = Behind { small: 0, large: 0 };
     for item in items {
