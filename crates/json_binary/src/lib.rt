@@ -20,6 +20,7 @@ pub use encoder::encode;
 pub use error::{DecodeError, EncodeError};
 pub use layout::{Form, Kind, Width};
 pub use place::{Container, Spot};
+pub use scalars::text_range;
 pub use usage::used;
 
 #[cfg(test)]
