@@ -19,6 +19,7 @@ pub use decoder::decode;
 pub use encoder::encode;
 pub use error::{DecodeError, EncodeError};
 pub use layout::{Form, Kind, Width};
+pub use numbers::{push_fill, push_word};
 pub use place::{Container, Spot};
 pub use scalars::text_range;
 pub use usage::used;
