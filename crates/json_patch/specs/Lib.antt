@@ -1,4 +1,4 @@
 pub mod View
 pub mod Stand
-pub mod Led
 pub mod Writes
+pub mod Led

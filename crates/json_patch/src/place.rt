@@ -1,12 +1,13 @@
 //! Where a path leads in a document's bytes.
-ghost use Rattle.std.specs.Prelude.{◌≡◌, ◌≤◌, ◌<◌, ◌+◌, ℕ, length, map, Some, None};
+ghost use Rattle.std.specs.Prelude.{◌≡◌, ◌≤◌, ◌<◌, ◌+◌, ℕ, length, map, IfSome};
 ghost use Rattle.tree_model.specs.Tree.{Tree, IsTree};
 ghost use Rattle.binary_model.specs.Layout as layout;
 ghost use Rattle.binary_model.specs.Stands.{IsValue};
 ghost use Rattle.binary_model.specs.Change.{positions};
 ghost use Rattle.json_path.specs.View.{leg_of};
 ghost use Rattle.json_binary.specs.Place.{container_of, spot_of, IsFramed, IsInside};
-ghost use Rattle.json_patch.specs.Led.{IsLed, IsEntered};
+ghost use Rattle.json_patch.specs.Led.{IsLed, IsEntered, IsNumber};
+ghost use Rattle.json_edit.specs.Places as places;
 
 use json_binary::{Container, Spot, child, container_in, member};
 use json_path::Leg;
@@ -55,10 +56,17 @@ fn enter(bytes: &[u8], spot: Spot, leg: &Leg) -> Entered
         IsEntered bytes.now (spot_of spot) t (leg_of leg.now) result }
 {
     let Some(container) = container_in(bytes, spot) else {
-        return if is_itself(leg) { Entered::Itself } else { Entered::Nothing };
+        if is_itself(leg) {
+            return Entered::Itself;
+        }
+        return Entered::Nothing;
     };
     let Some(k) = number_of(bytes, container, leg) else {
-        return if container.keyed && is_itself(leg) { Entered::Itself } else { Entered::Nothing };
+        let stays = container.keyed && is_itself(leg);
+        if stays {
+            return Entered::Itself;
+        }
+        return Entered::Nothing;
     };
     match child(bytes, container, k) {
         Some(inner) => Entered::Value(container, k, inner),
@@ -67,19 +75,34 @@ fn enter(bytes: &[u8], spot: Spot, leg: &Leg) -> Entered
 }
 
 /// Whether a leg on a value that isn't a list finds the value itself.
-fn is_itself(leg: &Leg) -> bool {
+fn is_itself(leg: &Leg) -> bool
+    ensures { result ≡ places.is_itself (leg_of leg.now) }
+{
     matches!(leg, Leg::Cell(0) | Leg::Last(0))
 }
 
 /// The number of the value that a leg finds in a container.
-fn number_of(bytes: &[u8], container: Container, leg: &Leg) -> Option<usize> {
+fn number_of(bytes: &[u8], container: Container, leg: &Leg) -> Option<usize>
+    requires framed { IsFramed bytes.now container }
+    ensures number { IsNumber bytes.now (container_of container) (leg_of leg.now) result }
+    ensures within { IfSome result (λ k. k < layout.count bytes.now (container_of container)) }
+{
+    if container.keyed {
+        return match leg {
+            Leg::Member(key) => member(bytes, container, key.as_str()),
+            _ => None,
+        };
+    }
     let count = container.count(bytes);
     match leg {
-        Leg::Member(key) if container.keyed => member(bytes, container, key.as_str()),
-        Leg::Cell(at) if !container.keyed && (*at as usize) < count => Some(*at as usize),
-        Leg::Last(back) if !container.keyed && (*back as usize) < count => {
-            Some(count - 1 - *back as usize)
+        Leg::Member(_) => None,
+        Leg::Cell(at) => {
+            let at = *at as usize;
+            if at < count { Some(at) } else { None }
         }
-        _ => None,
+        Leg::Last(back) => {
+            let back = *back as usize;
+            if back < count { Some(count - 1 - back) } else { None }
+        }
     }
 }

@@ -1,18 +1,18 @@
 //! An edit in place, as writes into the document's bytes.
-ghost use Rattle.std.specs.Prelude.{◌≡◌, ◌≤◌, ◌<◌, ◌+◌, ◌-◌, ◌++◌, length, IfOk, OnOk, Some, None, option_map};
-ghost use Rattle.tree_model.specs.Tree.{IsTree};
+ghost use Rattle.std.specs.Prelude.{◌≡◌, ◌≤◌, ◌<◌, ◌+◌, ◌-◌, ◌^◌, min, ◌++◌, ◌∷◌, [], true, false, length, IfOk, Some, option_map};
 ghost use Rattle.binary_model.specs.Layout as layout;
 ghost use Rattle.binary_model.specs.Change as change;
 ghost use Rattle.binary_model.specs.Canonical as canonical;
 ghost use Rattle.json_tree.specs.View.{tree_of};
 ghost use Rattle.json_binary.specs.View.{form_of, kind_of};
+ghost use Rattle.json_binary.specs.Sizes.{IsMeasured};
 ghost use Rattle.json_binary.specs.Place.{container_of, IsFramed};
 ghost use Rattle.json_patch.specs.Stand.{HasValues};
-ghost use Rattle.json_patch.specs.Writes.{put_writes, AreInside};
+ghost use Rattle.json_patch.specs.Writes.{put_writes, AreInside, IsMade};
 
 use crate::parts::put;
 use crate::room::{room_end, room_start};
-use json_binary::{Container, EncodeError, Kind, encode, push_fill, push_word};
+use json_binary::{Container, Measured, encode, measure, push_entry, push_word};
 use json_tree::Json;
 use std::alloc::{AllocError, Global};
 
@@ -40,53 +40,49 @@ pub fn replacing(
     container: Container,
     k: usize,
     value: &Json,
-) -> Result<Option<Vec<Write>>, AllocError> {
-    let mut spelled = Vec::new(alloc);
-    match encode(value, &mut spelled) {
-        Ok(()) => {}
-        Err(EncodeError::Large) => return Ok(None),
-        Err(EncodeError::Memory) => return Err(AllocError),
-    }
-    let Some(kind) = Kind::of(spelled[0]) else {
-        return Ok(None);
-    };
-    if kind.is_inlined(container.form) {
-        return inlined(alloc, bytes, container, k, kind, spelled);
+) -> Result<Option<Vec<Write>>, AllocError>
+    requires stands { HasValues bytes.now container }
+    requires inside { k < layout.count bytes.now (container_of container) }
+    requires near { length bytes.now < 2 ^ 63 }
+    ensures { IfOk result (λ found. IsMade bytes.now
+        (change.with_value bytes.now (canonical.spelling (tree_of value.now)) (container_of container) k)
+        (option_map (λ ws. ws.items) found)) }
+{
+    let mut plan = Vec::new(alloc);
+    let measured = measure(value, &mut plan)?;
+    if measured.kind.is_inlined(container.form) {
+        let writes = inlined(alloc, bytes, container, k, value, measured)?;
+        return Ok(Some(writes));
     }
     let start = room_start(bytes, container, k);
-    if room_end(bytes, container, k) < start + (spelled.len() - 1) {
+    if room_end(bytes, container, k) < start.saturating_add(measured.size) {
         return Ok(None);
     }
-    outside(alloc, bytes, container, k, start, &spelled)
+    let writes = outside(alloc, bytes, container, k, value, measured)?;
+    Ok(Some(writes))
 }
 
-// A value written in its entry, filled up to the entry's end.
+// A value written in its entry.
 fn inlined(
     alloc: Global,
     bytes: &[u8],
     container: Container,
     k: usize,
-    kind: Kind,
-    spelled: Vec<u8>,
-) -> Result<Option<Vec<Write>>, AllocError> {
-    let mut entry = spelled;
-    let left = (1 + container.form.word()).saturating_sub(entry.len());
-    let fill = fill_of(kind, &entry);
-    push_fill(fill, left, &mut entry)?;
-    let mut writes = Vec::with_capacity(alloc, 1)?;
-    writes.push(Write {
-        at: container.value_entry(bytes, k),
-        bytes: entry,
-    })?;
-    Ok(Some(writes))
-}
-
-// The sign of a number, else zeros.
-fn fill_of(kind: Kind, spelled: &[u8]) -> u8 {
-    match kind {
-        Kind::Signed(width) if spelled[width.bytes()] >= 128 => 255,
-        _ => 0,
-    }
+    value: &Json,
+    measured: Measured,
+) -> Result<Vec<Write>, AllocError>
+    requires stands { HasValues bytes.now container }
+    requires inside { k < layout.count bytes.now (container_of container) }
+    requires measured { IsMeasured (tree_of value.now) measured }
+    requires inlined { layout.is_inlined (form_of container.form) (kind_of measured.kind) ≡ true }
+    ensures { IfOk result (λ ws. IsMade bytes.now
+        (change.with_value bytes.now (canonical.spelling (tree_of value.now)) (container_of container) k)
+        (Some ws.items)) }
+{
+    let mut entry = Vec::new(alloc);
+    push_entry(value, measured, container.form, 0, &mut entry)?;
+    let at = container.value_entry(bytes, k);
+    one_write(alloc, Write { at, bytes: entry })
 }
 
 // A value written at its place, and its offset in the entry.
@@ -95,24 +91,62 @@ fn outside(
     bytes: &[u8],
     container: Container,
     k: usize,
-    start: usize,
-    spelled: &[u8],
-) -> Result<Option<Vec<Write>>, AllocError> {
+    value: &Json,
+    measured: Measured,
+) -> Result<Vec<Write>, AllocError>
+    requires stands { HasValues bytes.now container }
+    requires inside { k < layout.count bytes.now (container_of container) }
+    requires near { length bytes.now < 2 ^ 63 }
+    requires measured { IsMeasured (tree_of value.now) measured }
+    requires outside { layout.is_inlined (form_of container.form) (kind_of measured.kind) ≡ false }
+    requires fits { min (change.room_start bytes.now (container_of container) k + measured.size) (2 ^ 64 - 1)
+        ≤ change.room_end bytes.now (container_of container) k }
+    ensures { IfOk result (λ ws. IsMade bytes.now
+        (change.with_value bytes.now (canonical.spelling (tree_of value.now)) (container_of container) k)
+        (Some ws.items)) }
+{
+    let start = room_start(bytes, container, k);
     let mut entry = Vec::new(alloc);
-    entry.push(spelled[0])?;
-    push_word(start - container.at, container.form.word(), &mut entry)?;
-    let mut value = Vec::new(alloc);
-    value.extend_from_slice(&spelled[1..])?;
+    push_entry(value, measured, container.form, start - container.at, &mut entry)?;
+    let value = value_bytes(alloc, value)?;
+    let at = container.value_entry(bytes, k);
+    two_writes(
+        alloc,
+        Write { at, bytes: entry },
+        Write {
+            at: start,
+            bytes: value,
+        },
+    )
+}
+
+fn one_write(alloc: Global, first: Write) -> Result<Vec<Write>, AllocError>
+    ensures { IfOk result (λ ws. ws.items ≡ first ∷ []) }
+{
+    let mut writes = Vec::with_capacity(alloc, 1)?;
+    writes.push(first)?;
+    Ok(writes)
+}
+
+fn two_writes(alloc: Global, first: Write, second: Write) -> Result<Vec<Write>, AllocError>
+    ensures { IfOk result (λ ws. ws.items ≡ first ∷ second ∷ []) }
+{
     let mut writes = Vec::with_capacity(alloc, 2)?;
-    writes.push(Write {
-        at: container.value_entry(bytes, k),
-        bytes: entry,
-    })?;
-    writes.push(Write {
-        at: start,
-        bytes: value,
-    })?;
-    Ok(Some(writes))
+    writes.push(first)?;
+    writes.push(second)?;
+    Ok(writes)
+}
+
+// A value's bytes in its canonical encoding, without the type byte.
+fn value_bytes(alloc: Global, value: &Json) -> Result<Vec<u8>, AllocError>
+    ensures { IfOk result (λ out. out.items ≡ (canonical.spelling (tree_of value.now)).1) }
+{
+    let mut out = Vec::new(alloc);
+    if encode(value, &mut out).is_err() {
+        return Err(AllocError);
+    }
+    out.remove(0);
+    Ok(out)
 }
 
 /// The writes that remove a container's k-th value: one less is counted, and the entries move together.
@@ -121,19 +155,24 @@ pub fn removing(
     bytes: &[u8],
     container: Container,
     k: usize,
-) -> Result<Vec<Write>, AllocError> {
+) -> Result<Vec<Write>, AllocError>
+    requires stands { HasValues bytes.now container }
+    requires inside { k < layout.count bytes.now (container_of container) }
+    ensures { IfOk result (λ ws. IsMade bytes.now
+        (change.without_value bytes.now (container_of container) k) (Some ws.items)) }
+{
     let mut less = Vec::new(alloc);
     push_word(container.count(bytes) - 1, container.form.word(), &mut less)?;
-    let mut writes = Vec::with_capacity(alloc, 2)?;
-    writes.push(Write {
-        at: container.at,
-        bytes: less,
-    })?;
-    writes.push(Write {
-        at: container.header_end(bytes),
-        bytes: other_entries(alloc, bytes, container, k)?,
-    })?;
-    Ok(writes)
+    let entries = other_entries(alloc, bytes, container, k)?;
+    let at = container.header_end(bytes);
+    two_writes(
+        alloc,
+        Write {
+            at: container.at,
+            bytes: less,
+        },
+        Write { at, bytes: entries },
+    )
 }
 
 // The entries of all keys and values but the k-th.
@@ -142,7 +181,12 @@ fn other_entries(
     bytes: &[u8],
     container: Container,
     k: usize,
-) -> Result<Vec<u8>, AllocError> {
+) -> Result<Vec<u8>, AllocError>
+    requires framed { IsFramed bytes.now container }
+    requires inside { k < layout.count bytes.now (container_of container) }
+    ensures { IfOk result (λ out. out.items ≡ change.other_keys bytes.now (container_of container) k
+        ++ change.other_values bytes.now (container_of container) k) }
+{
     let form = container.form;
     let mut entries = Vec::new(alloc);
     let values_at = container.value_entry(bytes, 0);
