@@ -19,8 +19,12 @@ pub use decoder::decode;
 pub use encoder::encode;
 pub use error::{DecodeError, EncodeError};
 pub use layout::{Form, Kind, Width};
+pub use numbers::push_word;
 pub use place::{Container, Spot};
+pub use scalars::text_range;
+pub use sizes::{Extent, Measured, measure};
 pub use usage::used;
+pub use writer::push_entry;
 
 #[cfg(test)]
 mod tests;

@@ -1,0 +1,4 @@
+pub mod PartLemmas
+pub mod RoomLemmas
+pub mod WriteLemmas
+pub mod PlaceLemmas

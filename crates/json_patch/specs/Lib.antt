@@ -1,0 +1,4 @@
+pub mod View
+pub mod Stand
+pub mod Writes
+pub mod Led
