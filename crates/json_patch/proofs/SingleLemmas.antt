@@ -1,0 +1,159 @@
+-- An edit that puts one value where a path leads, below the root: when it leaves its tree equal, how deep its tree is, and what is stored for it.
+use Rattle.std.proofs.Common.{◌≡◌, ◌≢◌, ℕ, zero, suc, ◌+◌, ◌≤◌, ◌<◌, max, Bool, true, false, true≢false, List, [], ◌∷◌, length, Option, Some, None, option_map, option_and_then, is_some, refl, sym, ap, subst, ◌∙◌, arith}
+use Rattle.tree_model.specs.Tree.{Tree, null, boolean, number, text, array, object, Trees, no_trees, tree, tree_list, Members, no_members, member, depth, trees_depth, members_depth, IsTree}
+use Rattle.std.proofs.Common.{◌++◌}
+use Rattle.std.proofs.lemmas.Grind.{common_steps}
+use Rattle.tree_model.specs.Path.{Leg, key, cell, last, Path, child}
+use Rattle.tree_model.specs.Same.{same_tree}
+use Rattle.tree_model.proofs.SameLemmas.{tree_equal, tree_itself}
+use Rattle.binary_model.specs.Change.{position_of, positions}
+use Rattle.binary_model.proofs.AgreeLemmas.{some_is}
+use Rattle.binary_model.proofs.StandLemmas.{values}
+use Rattle.binary_model.proofs.RefitLemmas.{nth, with_element}
+use Rattle.binary_model.proofs.KidsLemmas.{kids, with_nth_member, with_kid}
+use Rattle.binary_model.proofs.LiftLemmas.{Reaches}
+use Rattle.binary_model.proofs.PositionLemmas.{put_at}
+
+-- the value where the positions lead
+abbrev pub value_at : List ℕ → Tree → Tree
+value_at [] t = t
+value_at (k ∷ ks) t = value_at ks (nth (kids t) k)
+
+none_some : {X : Type 0} (x : X) → None ≡ Some x → ⊥
+none_some x e = true≢false (sym (ap is_some e))
+
+-- ---- it leaves its tree equal exactly where the value is equal
+
+nth_with : (ts : Trees) (n : ℕ) (u : Tree) → n < length (tree_list ts) → nth (with_element ts n u) n ≡ u
+nth_with no_trees n u low = absurd (omega (arith, low))
+nth_with (tree t ts) zero u low = refl
+nth_with (tree t ts) (suc n) u low = nth_with ts n u (omega (arith, low))
+
+with_nth : (ts : Trees) (n : ℕ) → n < length (tree_list ts) → with_element ts n (nth ts n) ≡ ts
+with_nth no_trees n low = refl
+with_nth (tree t ts) zero low = refl
+with_nth (tree t ts) (suc n) low = ap (tree t) (with_nth ts n (omega (arith, low)))
+
+values_with : (ms : Members) (n : ℕ) (u : Tree) → values (with_nth_member ms n u) ≡ with_element (values ms) n u
+values_with no_members n u = refl
+values_with (member k t ms) zero u = refl
+values_with (member k t ms) (suc n) u = ap (tree t) (values_with ms n u)
+
+members_with_nth : (ms : Members) (n : ℕ) → n < length (tree_list (values ms)) → with_nth_member ms n (nth (values ms) n) ≡ ms
+members_with_nth no_members n low = refl
+members_with_nth (member k t ms) zero low = refl
+members_with_nth (member k t ms) (suc n) low = ap (member k t) (members_with_nth ms n (omega (arith, low)))
+
+kid_with : (t : Tree) (n : ℕ) (u : Tree) → n < length (tree_list (kids t)) → nth (kids (with_kid t n u)) n ≡ u
+kid_with null n u low = absurd (omega (arith, low))
+kid_with (boolean b) n u low = absurd (omega (arith, low))
+kid_with (number z) n u low = absurd (omega (arith, low))
+kid_with (text s) n u low = absurd (omega (arith, low))
+kid_with (array ts) n u low = nth_with ts n u low
+kid_with (object ms) n u low = ap (λ ts. nth ts n) (values_with ms n u) ∙ nth_with (values ms) n u low
+
+with_itself : (t : Tree) (n : ℕ) → n < length (tree_list (kids t)) → with_kid t n (nth (kids t) n) ≡ t
+with_itself null n low = absurd (omega (arith, low))
+with_itself (boolean b) n low = absurd (omega (arith, low))
+with_itself (number z) n low = absurd (omega (arith, low))
+with_itself (text s) n low = absurd (omega (arith, low))
+with_itself (array ts) n low = ap array (with_nth ts n low)
+with_itself (object ms) n low = ap object (members_with_nth ms n low)
+
+put_found : (ks : List ℕ) (u t : Tree) → Reaches ks t → value_at ks (put_at ks u t) ≡ u
+put_found [] u t r = refl
+put_found (k ∷ ks) u t r = ap (value_at ks) (kid_with t k (put_at ks u (nth (kids t) k)) r.0) ∙ put_found ks u (nth (kids t) k) r.1
+
+put_itself : (ks : List ℕ) (t : Tree) → Reaches ks t → put_at ks (value_at ks t) t ≡ t
+put_itself [] t r = refl
+put_itself (k ∷ ks) t r = ap (with_kid t k) (put_itself ks (nth (kids t) k) r.1) ∙ with_itself t k r.0
+
+by_equal : (a b : Bool) → (a ≡ true → b ≡ true) → (b ≡ true → a ≡ true) → a ≡ b
+by_equal true true f g = refl
+by_equal true false f g = sym (f refl)
+by_equal false true f g = g refl
+by_equal false false f g = refl
+
+pub same_put : (ks : List ℕ) (u t : Tree) → Reaches ks t → same_tree t (put_at ks u t) ≡ same_tree (value_at ks t) u
+same_put ks u t r = by_equal (same_tree t (put_at ks u t)) (same_tree (value_at ks t) u)
+    (λ h. let e : value_at ks t ≡ u = ap (value_at ks) (tree_equal t (put_at ks u t) h) ∙ put_found ks u t r in subst (λ v. same_tree (value_at ks t) v ≡ true) e (tree_itself (value_at ks t)))
+    (λ h. let e : put_at ks u t ≡ t = ap (λ v. put_at ks v t) (sym (tree_equal (value_at ks t) u h)) ∙ put_itself ks t r in subst (λ v. same_tree t v ≡ true) (sym e) (tree_itself t))
+
+-- ---- it is no deeper than what was there, or than the value below its containers
+
+elements_deep : (ts : Trees) (n : ℕ) (u : Tree) → trees_depth (with_element ts n u) ≤ max (trees_depth ts) (depth u)
+elements_deep no_trees n u = omega arith
+elements_deep (tree t ts) zero u = omega arith
+elements_deep (tree t ts) (suc n) u = let rest : trees_depth (with_element ts n u) ≤ max (trees_depth ts) (depth u) = elements_deep ts n u in omega (arith, rest)
+
+members_deep : (ms : Members) (n : ℕ) (u : Tree) → members_depth (with_nth_member ms n u) ≤ max (members_depth ms) (depth u)
+members_deep no_members n u = omega arith
+members_deep (member k t ms) zero u = omega arith
+members_deep (member k t ms) (suc n) u = let rest : members_depth (with_nth_member ms n u) ≤ max (members_depth ms) (depth u) = members_deep ms n u in omega (arith, rest)
+
+kid_deep : (t : Tree) (n : ℕ) (u : Tree) → depth (with_kid t n u) ≤ max (depth t) (suc (depth u))
+kid_deep null n u = omega arith
+kid_deep (boolean b) n u = omega arith
+kid_deep (number z) n u = omega arith
+kid_deep (text s) n u = omega arith
+kid_deep (array ts) n u = let e : trees_depth (with_element ts n u) ≤ max (trees_depth ts) (depth u) = elements_deep ts n u in omega (arith, e)
+kid_deep (object ms) n u = let e : members_depth (with_nth_member ms n u) ≤ max (members_depth ms) (depth u) = members_deep ms n u in omega (arith, e)
+
+nth_deep : (ts : Trees) (n : ℕ) → depth (nth ts n) ≤ trees_depth ts
+nth_deep no_trees n = omega arith
+nth_deep (tree t ts) zero = omega arith
+nth_deep (tree t ts) (suc n) = let rest : depth (nth ts n) ≤ trees_depth ts = nth_deep ts n in omega (arith, rest)
+
+values_deep : (ms : Members) → trees_depth (values ms) ≡ members_depth ms
+values_deep no_members = refl
+values_deep (member k t ms) = ap (max (depth t)) (values_deep ms)
+
+below_deep : (t : Tree) (n : ℕ) → n < length (tree_list (kids t)) → suc (depth (nth (kids t) n)) ≤ depth t
+below_deep null n low = absurd (omega (arith, low))
+below_deep (boolean b) n low = absurd (omega (arith, low))
+below_deep (number z) n low = absurd (omega (arith, low))
+below_deep (text s) n low = absurd (omega (arith, low))
+below_deep (array ts) n low = let e : depth (nth ts n) ≤ trees_depth ts = nth_deep ts n in omega (arith, e)
+below_deep (object ms) n low = let e : depth (nth (values ms) n) ≤ members_depth ms = subst (λ d. depth (nth (values ms) n) ≤ d) (values_deep ms) (nth_deep (values ms) n) in omega (arith, e)
+
+pub put_deep : (ks : List ℕ) (u t : Tree) (most : ℕ) → Reaches ks t → depth t ≤ most → length ks + depth u ≤ most → depth (put_at ks u t) ≤ most
+put_deep [] u t most r h g = omega (arith, g)
+put_deep (k ∷ ks) u t zero r h g = absurd (omega (arith, g))
+put_deep (k ∷ ks) u t (suc m) r h g =
+    let kid : suc (depth (nth (kids t) k)) ≤ depth t = below_deep t k r.0 in
+    let inner : depth (put_at ks u (nth (kids t) k)) ≤ m = put_deep ks u (nth (kids t) k) m r.1 (omega (arith, kid, h)) (omega (arith, g)) in
+    let one : depth (with_kid t k (put_at ks u (nth (kids t) k))) ≤ max (depth t) (suc (depth (put_at ks u (nth (kids t) k)))) = kid_deep t k (put_at ks u (nth (kids t) k)) in
+    omega (arith, inner, one, h)
+
+-- ---- no path enters more values than it has legs
+
+few_positions : (t : Tree) (l : Leg) → length (position_of t l) ≤ 1
+few_positions null l = omega arith
+few_positions (boolean b) l = omega arith
+few_positions (number z) l = omega arith
+few_positions (text s) l = omega arith
+few_positions (array ts) (key k) = omega arith
+few_positions (array ts) (cell n) = omega arith
+few_positions (array ts) (last n) = omega arith
+few_positions (object ms) (key k) = omega arith
+few_positions (object ms) (cell n) = omega arith
+few_positions (object ms) (last n) = omega arith
+
+joined : (xs ys : List ℕ) → length (xs ++ ys) ≡ length xs + length ys
+joined xs ys = grind (arith, common_steps)
+
+pub few_entered : (ls : Path) (t : Tree) (ks : List ℕ) → positions ls t ≡ Some ks → length ks ≤ length ls
+few_entered [] t ks e = subst (λ js. length js ≤ 0) (some_is e) (omega arith)
+few_entered (l ∷ ls) t ks e = by_child (λ u js f. few_entered ls u js f) (child t l) e
+  where
+    by_rest : (o : Option (List ℕ)) → ((js : List ℕ) → o ≡ Some js → length js ≤ length ls) → option_map (λ js. position_of t l ++ js) o ≡ Some ks → length ks ≤ suc (length ls)
+    by_rest None f h = absurd (none_some ks h)
+    by_rest (Some js) f h =
+        let few : length js ≤ length ls = f js refl in
+        let one : length (position_of t l) ≤ 1 = few_positions t l in
+        let all : length (position_of t l ++ js) ≡ length (position_of t l) + length js = joined (position_of t l) js in
+        subst (λ xs. length xs ≤ suc (length ls)) (some_is h) (omega (arith, few, one, all))
+
+    by_child : ((u : Tree) (js : List ℕ) → positions ls u ≡ Some js → length js ≤ length ls) → (o : Option Tree) → option_and_then (λ u. option_map (λ js. position_of t l ++ js) (positions ls u)) o ≡ Some ks → length ks ≤ suc (length ls)
+    by_child again None h = absurd (none_some ks h)
+    by_child again (Some u) h = by_rest (positions ls u) (again u) h
