@@ -2,3 +2,4 @@ pub mod View
 pub mod Stand
 pub mod Writes
 pub mod Led
+pub mod Draft

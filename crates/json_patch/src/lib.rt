@@ -1,6 +1,7 @@
 //! The stored change: which bytes of a stored document an edit touches, or the new encoding where it can't be made in place.
 #![tactic(auto)]
 
+mod draft;
 mod error;
 mod parts;
 mod place;
