@@ -1,15 +1,21 @@
 -- A draft goes on as the definition's progress does, and ends as its change.
-use Rattle.std.proofs.Common.{◌≡◌, ◌≤◌, ◌<◌, ℕ, suc, ◌+◌, ◌-◌, ◌^◌, min, Bool, true, false, List, [], ◌∷◌, length, map, drop, get_or, Option, Some, None, unwrap_or, option_map, option_and_then, refl, sym, ap, subst, ◌∙◌, arith, cond}
-use Rattle.tree_model.specs.Tree.{Tree, depth}
+use Rattle.std.proofs.Common.{◌≡◌, ◌≤◌, ◌<◌, ℕ, suc, ◌+◌, ◌-◌, ◌^◌, min, Bool, true, false, List, [], ◌∷◌, ◌++◌, append-nil, length, map, take, drop, get_or, Option, Some, None, unwrap_or, option_map, option_and_then, refl, sym, ap, subst, ◌∙◌, arith, cond}
+use Rattle.std.proofs.lemmas.List.{length-append, drop_all, take_all}
+use Rattle.tree_model.specs.Tree.{Tree, IsTree, depth}
 use Rattle.tree_model.specs.Path.{Path}
 use Rattle.tree_model.specs.Edit.{Edit, Set, Replace, Remove, set, replace, remove, edited}
 use Rattle.tree_model.specs.Same.{same_tree}
 use Rattle.binary_model.specs.Layout as layout
 use Rattle.binary_model.specs.Layout.{root, count}
-use Rattle.binary_model.specs.Stands.{IsBytes, Stands, max_nested}
+use Rattle.binary_model.specs.Stands.{IsBytes, IsValue, Stands, max_nested}
+use Rattle.binary_model.specs.Place.{Holds}
 use Rattle.binary_model.specs.Canonical.{canonical, canonical_length}
 use Rattle.binary_model.specs.Change as change
-use Rattle.binary_model.specs.Change.{Progress, progress, at_holder, runs, SetsTrees, put_all, stored_as, finished}
+use Rattle.binary_model.specs.Change.{Progress, progress, positions, edited_at, written, at_holder, Run, runs, SetsTrees, put_all, stored_as, finished, AreApart, StandAt as Stood}
+use Rattle.binary_model.proofs.WrittenLemmas.{written_length}
+use Rattle.binary_model.proofs.MaximalLemmas.{runs_maximal}
+use Rattle.binary_model.proofs.StandLemmas.{one_tree}
+use Rattle.binary_model.proofs.LengthLemmas.{measured_length}
 use Rattle.binary_model.proofs.EditLemmas.{InPlace, Follows, progress_follows, edits_are}
 use Rattle.binary_model.proofs.ChangeLemmas.{same_edits}
 use Rattle.json_edit.specs.Acts.{Acts}
@@ -19,7 +25,10 @@ use Rattle.json_patch.specs.declared.place.Place.{Place}
 use Rattle.json_patch.specs.declared.place.Place.TheVariants.{Root, Inside}
 use Rattle.json_patch.specs.Stand.{HasValues}
 use Rattle.json_patch.specs.Led.{IsLed}
-use Rattle.json_patch.specs.Draft.{StandAt, StandIf}
+use Rattle.json_patch.specs.Draft.{StandAt, StandIf, putting, taking}
+use Rattle.json_patch.specs.declared.writes.Write.{Write}
+use Rattle.json_patch.specs.Writes.{put_writes, AreInside, IsMade}
+use Rattle.json_patch.specs.View.{AreWithin}
 
 -- ---- the place of a pair
 
@@ -90,3 +99,86 @@ length_of bytes (Some new) t h = h.len
 pub length_stays : (bytes : List ℕ) (t : Tree) (edit : Edit) → IsBytes bytes → Stands bytes t → SetsTrees edit → SameLength bytes (progress edit (record { «tree» = t; edited = Some bytes })).edited
 length_stays bytes t edit octets s sets =
     length_of bytes _ _ (progress_follows bytes edit (record { «tree» = t; edited = Some bytes }) sets (record { len = refl; octets = octets; is = s.«tree»; some = s.some; value = s.value; whole = s.whole }))
+
+-- ---- an edit in place, made
+
+writes_length : (ws : List Write) (bytes : List ℕ) → AreInside (length bytes) ws → length (put_writes ws bytes) ≡ length bytes
+writes_length [] bytes h = refl
+writes_length (w ∷ ws) bytes h =
+    let one = written_length bytes w.at w.bytes.items h.0 in
+    writes_length ws (written bytes w.at w.bytes.items) (subst (λ n. AreInside n ws) (sym one) h.1) ∙ one
+
+whole_again : (items new : List ℕ) (len : ℕ) → len ≡ length items → length new ≡ length items → take len (new ++ drop (length new) items) ≡ new
+whole_again items new len e f =
+    ap (λ r. take len (new ++ r)) (drop_all (length new) items (omega (arith, f))) ∙ ap (take len) (append-nil new) ∙ take_all len new (omega (arith, e, f))
+
+-- the place that a path leads to, by equal bytes
+held : (items b1 b2 : List ℕ) (t : Tree) (path ls : Path) (s : layout.Spot) (p q : Option Place) → StandAt items t → b1 ≡ items → b2 ≡ items → ls ≡ path → p ≡ q → s ≡ root b1
+    → ((v : Tree) → IsTree v → IsValue b2 v s → IsLed b2 s Root (positions ls v) p) → IsLed items (root items) Root (positions path t) q
+held items b1 b2 t path ls s p q stand e1 e2 el ep es f =
+    let here : s ≡ root items = es ∙ ap root e1 in
+    let value : IsValue b2 t s = subst (λ b. IsValue b t s) (sym e2) (subst (IsValue items t) (sym here) stand.value) in
+    subst (λ b. IsLed b (root b) Root (positions path t) q) refl
+    (subst (IsLed items (root items) Root (positions path t)) ep
+    (subst (λ l. IsLed items (root items) Root (positions l t) p) el
+    (subst (λ s. IsLed items s Root (positions ls t) p) here
+    (subst (λ b. IsLed b s Root (positions ls t) p) e2 (f t stand.is value)))))
+
+abbrev Editing : Type 0
+Editing = List ℕ → layout.Container → ℕ → Option (List ℕ)
+
+pub made : (edit : Editing) (items b1 b2 b3 m new : List ℕ) (t : Tree) (path ls : Path) (o : Option (List ℕ)) (s : layout.Spot) (p : Place) (c : Container) (k len : ℕ) (ws wr : List Write)
+    → o ≡ Some items → StandIf o t → b1 ≡ items → b2 ≡ items → b3 ≡ items → m ≡ items → wr ≡ ws → ls ≡ path → p ≡ Inside c k → s ≡ root b1
+    → ((v : Tree) → IsTree v → IsValue b2 v s → IsLed b2 s Root (positions ls v) (Some p))
+    → IsMade b3 (edit b3 (container_of c) k) (Some ws) → new ≡ put_writes wr m → len ≡ length items
+    → Some (take len (new ++ drop (length new) items)) ≡ option_and_then (edited_at edit (positions path t)) o
+made edit items b1 b2 b3 m new t path ls o s p c k len ws wr e0 h e1 e2 e3 em ew el ep es f made_so written_so size =
+    let stand : StandAt items t = subst (λ o. StandIf o t) e0 h in
+    let led = held items b1 b2 t path ls s (Some p) (Some (Inside c k)) stand e1 e2 el (ap Some ep) es f in
+    let acts = acts_inside items (root items) (positions path t) c k led in
+    let so : IsMade items (edit items (container_of c) k) (Some ws) = subst (λ b. IsMade b (edit b (container_of c) k) (Some ws)) e3 made_so in
+    let result : new ≡ put_writes ws items = written_so ∙ ap (λ w. put_writes w m) ew ∙ ap (put_writes ws) em in
+    let long : length new ≡ length items = ap length result ∙ writes_length ws items so.1 in
+    ap Some (whole_again items new len size long ∙ result) ∙ sym so.0 ∙ sym (acts.2 (edit items)) ∙ sym (ap (option_and_then (edited_at edit (positions path t))) e0)
+
+pub made_not : (edit : Editing) (items b1 b2 b3 : List ℕ) (t : Tree) (path ls : Path) (o : Option (List ℕ)) (s : layout.Spot) (p : Place) (c : Container) (k : ℕ)
+    → o ≡ Some items → StandIf o t → b1 ≡ items → b2 ≡ items → b3 ≡ items → ls ≡ path → p ≡ Inside c k → s ≡ root b1
+    → ((v : Tree) → IsTree v → IsValue b2 v s → IsLed b2 s Root (positions ls v) (Some p))
+    → IsMade b3 (edit b3 (container_of c) k) None → None ≡ option_and_then (edited_at edit (positions path t)) o
+made_not edit items b1 b2 b3 t path ls o s p c k e0 h e1 e2 e3 el ep es f made_so =
+    let stand : StandAt items t = subst (λ o. StandIf o t) e0 h in
+    let led = held items b1 b2 t path ls s (Some p) (Some (Inside c k)) stand e1 e2 el (ap Some ep) es f in
+    let acts = acts_inside items (root items) (positions path t) c k led in
+    let so : edit items (container_of c) k ≡ None = subst (λ b. edit b (container_of c) k ≡ None) e3 made_so in
+    sym so ∙ sym (acts.2 (edit items)) ∙ sym (ap (option_and_then (edited_at edit (positions path t))) e0)
+
+-- ---- one pair
+
+pub set_on : (path : Path) (u after : Tree) (p q : Progress) → IsTree u → StandIf p.edited p.«tree» → after ≡ set path u p.«tree» → q ≡ change.step (putting path u p.«tree») after p → StandIf q.edited q.«tree»
+set_on path u after p q is h e f = drafted_on (Set ((path, u) ∷ [])) p q (is, tt) h (f ∙ ap (λ a. change.step (putting path u p.«tree») a p) e)
+
+pub replace_on : (path : Path) (u after : Tree) (p q : Progress) → IsTree u → StandIf p.edited p.«tree» → after ≡ replace path u p.«tree» → q ≡ change.step (putting path u p.«tree») after p → StandIf q.edited q.«tree»
+replace_on path u after p q is h e f = drafted_on (Replace ((path, u) ∷ [])) p q (is, tt) h (f ∙ ap (λ a. change.step (putting path u p.«tree») a p) e)
+
+pub remove_on : (path : Path) (after : Tree) (p q : Progress) → StandIf p.edited p.«tree» → after ≡ remove path p.«tree» → q ≡ change.step (taking path p.«tree») after p → StandIf q.edited q.«tree»
+remove_on path after p q h e f = drafted_on (Remove (path ∷ [])) p q tt h (f ∙ ap (λ a. change.step (taking path p.«tree») a p) e)
+
+-- ---- runs lie within the bytes
+
+held_within : (old : List ℕ) (at : ℕ) (xs : List ℕ) → Holds old at xs → at + length xs ≤ length old
+held_within old at xs h =
+    let a = ap length h.whole in
+    let b = length-append h.pre (xs ++ h.post) in
+    let d = length-append xs h.post in
+    let p = h.place in
+    omega (arith, a, b, d, p)
+
+within_from : (rs : List Run) (old new : List ℕ) (low : ℕ) → AreApart low rs → Stood old new rs → AreWithin (length old) rs
+within_from [] old new low a s = tt
+within_from (r ∷ rs) old new low a s =
+    let same = a.1.1 in
+    let inside = held_within old r.at r.before s.0 in
+    (sym same, omega (arith, same, inside), within_from rs old new (suc (r.at + length r.before)) a.2 s.2)
+
+pub runs_within : (old new : List ℕ) → length old ≡ length new → AreWithin (length old) (runs old new)
+runs_within old new e = let m = runs_maximal old new e in within_from (runs old new) old new 0 m.apart m.stand

@@ -3,3 +3,4 @@ pub mod Stand
 pub mod Writes
 pub mod Led
 pub mod Draft
+pub mod Answer

@@ -5,7 +5,7 @@ mod draft;
 mod error;
 mod parts;
 mod place;
-// mod plan;
+mod planning;
 mod room;
 // #[cfg(test)]
 // mod tests;
@@ -14,4 +14,4 @@ mod writes;
 
 pub use error::PlanError;
 pub use parts::{Parts, Patch, apply, unapply};
-// pub use plan::{Plan, plan};
+pub use planning::{Planned, plan};
