@@ -1,5 +1,5 @@
 -- A draft goes on as the definition's progress does, and ends as its change.
-use Rattle.std.proofs.Common.{◌≡◌, ◌≤◌, ◌<◌, ℕ, suc, ◌+◌, ◌-◌, ◌^◌, min, Bool, true, false, List, [], ◌∷◌, ◌++◌, append-nil, length, map, take, drop, get_or, Option, Some, None, unwrap_or, option_map, option_and_then, refl, sym, ap, subst, ◌∙◌, arith, cond}
+use Rattle.std.proofs.Common.{◌≡◌, ◌≤◌, ◌<◌, ℕ, suc, ◌+◌, ◌-◌, ◌^◌, min, Bool, true, false, List, [], ◌∷◌, ◌++◌, append-nil, length, map, take, drop, get_or, Option, Some, None, unwrap_or, option_map, option_and_then, Result, Ok, Err, IfSome, refl, sym, ap, ap₂, subst, ◌∙◌, arith, cond}
 use Rattle.std.proofs.lemmas.List.{length-append, drop_all, take_all}
 use Rattle.tree_model.specs.Tree.{Tree, IsTree, depth}
 use Rattle.tree_model.specs.Path.{Path}
@@ -29,6 +29,10 @@ use Rattle.json_patch.specs.Draft.{StandAt, StandIf, putting, taking}
 use Rattle.json_patch.specs.declared.writes.Write.{Write}
 use Rattle.json_patch.specs.Writes.{put_writes, AreInside, IsMade}
 use Rattle.json_patch.specs.View.{AreWithin}
+use Rattle.json_patch.specs.declared.planning.Planned.{Planned}
+use Rattle.json_patch.specs.declared.planning.Planned.TheVariants as planned
+use Rattle.json_patch.specs.declared.error.PlanError.{PlanError}
+use Rattle.json_patch.specs.Answer.{IsAnswer, StaysInPlace}
 
 -- ---- the place of a pair
 
@@ -182,3 +186,53 @@ within_from (r ∷ rs) old new low a s =
 
 pub runs_within : (old new : List ℕ) → length old ≡ length new → AreWithin (length old) (runs old new)
 runs_within old new e = let m = runs_maximal old new e in within_from (runs old new) old new 0 m.apart m.stand
+
+-- ---- the whole plan
+
+pub whole_progress : (bytes : List ℕ) (t : Tree) (edit : Edit) (p q : Progress) → p.«tree» ≡ t → p.edited ≡ Some bytes → q ≡ progress edit p → q ≡ progress edit (record { «tree» = t; edited = Some bytes })
+whole_progress bytes t edit p q e f h = h ∙ ap₂ (λ u o. progress edit (record { «tree» = u; edited = o })) e f
+
+pub if_length : (bytes : List ℕ) (o : Option (List ℕ)) → SameLength bytes o → IfSome o (λ new. length bytes ≡ length new)
+if_length bytes None h = tt
+if_length bytes (Some new) h = h
+
+pub answer_from : (bytes : List ℕ) (t u : Tree) (edit : Edit) (q : Progress) (result : Result Planned PlanError) → t ≡ u → q ≡ progress edit (record { «tree» = t; edited = Some bytes })
+    → IsAnswer (finished bytes t q) (depth q.«tree») (canonical_length q.«tree») result → IsAnswer (change.change bytes u edit) (depth (edited edit u)) (canonical_length (edited edit u)) result
+answer_from bytes t u edit q result same e h =
+    let first : Progress = record { «tree» = t; edited = Some bytes } in
+    subst (λ v. IsAnswer (change.change bytes v edit) (depth (edited edit v)) (canonical_length (edited edit v)) result) same
+    (subst (λ v. IsAnswer (change.change bytes t edit) (depth v) (canonical_length v) result) (same_edits edit first)
+    (subst (λ q. IsAnswer (finished bytes t q) (depth q.«tree») (canonical_length q.«tree») result) e h))
+
+parts_of : change.Change → List Run
+parts_of change.Same = []
+parts_of (change.Parts rs) = rs
+parts_of (change.Full new) = []
+
+parts_same : (rs others : List Run) → change.Parts rs ≡ change.Parts others → rs ≡ others
+unfolding parts_of
+parts_same rs others e = ap parts_of e
+
+within_stored : (bytes : List ℕ) (rs : List Run) (t : Tree) (o : Option (List ℕ)) → elim o [ None ↦ change.Full (canonical t) | Some new ↦ change.Parts (runs bytes new) ] ≡ change.Parts rs → SameLength bytes o → AreWithin (length bytes) rs
+within_stored bytes rs t None e h = let no : ⊥ = cc in absurd no
+within_stored bytes rs t (Some new) e h = subst (AreWithin (length bytes)) (parts_same (runs bytes new) rs e) (runs_within bytes new h)
+
+within_change : (bytes : List ℕ) (rs : List Run) (p : Progress) (b : Bool) → cond b change.Same (stored_as bytes p) ≡ change.Parts rs → SameLength bytes p.edited → AreWithin (length bytes) rs
+within_change bytes rs p true e h = let no : ⊥ = cc in absurd no
+within_change bytes rs p false e h = within_stored bytes rs p.«tree» p.edited e h
+
+abbrev InPlaceFor : List ℕ → Tree → List Run → Type 0
+InPlaceFor bytes t rs = AreWithin (length bytes) rs × Stands (put_all rs bytes) t × (length (put_all rs bytes) ≡ length bytes)
+
+pub stays : (bytes : List ℕ) (t : Tree) (edit : Edit) (size : ℕ) (c : change.Change) (result : Result Planned PlanError) → change.change bytes t edit ≡ c → IsBytes bytes → Stands bytes t → SetsTrees edit
+    → IsAnswer c (depth (edited edit t)) size result → StaysInPlace bytes (edited edit t) result
+stays bytes t edit size c (Err e) is octets s sets h = tt
+stays bytes t edit size c (Ok planned.Same) is octets s sets h = tt
+stays bytes t edit size c (Ok (planned.Full out)) is octets s sets h = tt
+stays bytes t edit size change.Same (Ok (planned.Parts parts)) is octets s sets h = absurd h
+stays bytes t edit size (change.Full new) (Ok (planned.Parts parts)) is octets s sets h = absurd h
+stays bytes t edit size (change.Parts rs) (Ok (planned.Parts parts)) is octets s sets h =
+    let first : Progress = record { «tree» = t; edited = Some bytes } in
+    let law = edits_are bytes t edit rs octets s sets h.0 is in
+    subst (InPlaceFor bytes (edited edit t)) (sym h.1)
+    (within_change bytes rs (progress edit first) (same_tree t (progress edit first).«tree») is (length_stays bytes t edit octets s sets), law.0, law.1)

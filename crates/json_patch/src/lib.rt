@@ -7,8 +7,8 @@ mod parts;
 mod place;
 mod planning;
 mod room;
-// #[cfg(test)]
-// mod tests;
+#[cfg(test)]
+mod tests;
 mod trees;
 mod writes;
 
