@@ -3,3 +3,4 @@ pub mod RoomLemmas
 pub mod WriteLemmas
 pub mod PlaceLemmas
 pub mod SingleLemmas
+pub mod PlanLemmas

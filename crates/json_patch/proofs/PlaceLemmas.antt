@@ -229,7 +229,7 @@ pub entered_value : (bytes : List ℕ) (t : Tree) (s : layout.Spot) (c : Contain
 entered_value bytes t s c l k u tree_is v is framed n place inside = go t (holder bytes t s (container_of c) v is) tree_is
   where
     go : (t : Tree) → Holder bytes s (container_of c) t → IsTree t → IsEntered bytes s t l (Value c k u)
-    go t (inl (ts, e, h)) tree_is = subst (λ t. IsEntered bytes s t l (Value c k u)) (sym e) (in_list bytes s c ts l k u is framed h (sym (n.0 h.0)) place inside)
+    go t (inl (ts, e, h)) tree_is = subst (λ t. IsEntered bytes s t l (Value c k u)) (sym e) (in_list bytes s c ts l k u is framed h (n.0 h.0) place inside)
     go t (inr (ms, e, h)) tree_is = subst (λ t. IsEntered bytes s t l (Value c k u)) (sym e) (in_object bytes s c ms l k u is framed h (subst IsTree e tree_is).0 (n.1 h.0) place inside)
 
 object_key : (bytes : List ℕ) (s : layout.Spot) (d : layout.Container) (ms : Members) (l : Leg) → HasMembers bytes s.window ms d → AreMembers (member_list ms) → IsMember bytes d l None → (k : List ℕ) → l ≡ key k → tree_child (object ms) l ≡ None
@@ -242,7 +242,7 @@ pub entered_nothing : (bytes : List ℕ) (t : Tree) (s : layout.Spot) (c : Conta
 entered_nothing bytes t s c l tree_is v is n out = go t (holder bytes t s (container_of c) v is) tree_is
   where
     go : (t : Tree) → Holder bytes s (container_of c) t → IsTree t → tree_child t l ≡ None
-    go t (inl (ts, e, h)) tree_is = ap (λ t. tree_child t l) e ∙ missing ts (count bytes (container_of c)) l h.2 (sym (n.0 h.0))
+    go t (inl (ts, e, h)) tree_is = ap (λ t. tree_child t l) e ∙ missing ts (count bytes (container_of c)) l h.2 (n.0 h.0)
     go t (inr (ms, e, h)) tree_is =
         let itself_out : places.is_itself l ≡ false = sym (ap (λ b. b && places.is_itself l) h.0) ∙ out in
         ap (λ t. tree_child t l) e ∙ stays_nothing (object ms) l (object_stays ms) (object_key bytes s (container_of c) ms l h (subst IsTree e tree_is).0 (n.1 h.0)) itself_out
@@ -293,3 +293,11 @@ led_value bytes t s l ls place c k u found e h is =
     subst (λ o. IsLed bytes s place (option_and_then (λ v. option_map (λ ks. position_of t l ++ ks) (positions ls v)) o) found) (sym at)
     (subst (λ js. IsLed bytes s place (option_map (λ ks. js ++ ks) (positions ls v)) found) (sym e.0)
     (value_led bytes s c k u place (positions ls v) found e.1 e.2 (h v (step_is t l v is (leg_step t l v is at)) stands)))
+
+-- where a container stands, its k-th value does
+pub kid_there : (bytes : List ℕ) (t : Tree) (s : layout.Spot) (d : layout.Container) (k : ℕ) → IsValue bytes t s → container_at bytes s ≡ Some d → k < count bytes d → (v : Tree) × IsValue bytes v (child bytes d k)
+kid_there bytes t s d k v e low = go (holder bytes t s d v e)
+  where
+    go : Holder bytes s d t → (v : Tree) × IsValue bytes v (child bytes d k)
+    go (inl (ts, f, h)) = (nth ts k, kid_stands bytes d ts k (elements_values bytes s.window ts d h) low)
+    go (inr (ms, f, h)) = (nth (values ms) k, kid_stands bytes d (values ms) k (members_values bytes s.window ms d h) low)

@@ -41,6 +41,11 @@ IsEntered bytes s t l Itself = (child t l ≡ Some t) × (position_of t l ≡ []
 IsEntered bytes s t l (Value c k u) = (position_of t l ≡ k ∷ []) × IsIn bytes s c k × (spot_of u ≡ layout.child bytes (container_of c) k) × IsInside bytes u
     × ((v : Tree) × (child t l ≡ Some v) × IsValue bytes v (spot_of u))
 
+-- a value that is entered lies within the bytes
+abbrev pub EntersInside : List ℕ → Entered → Type 0
+EntersInside bytes (Value c k u) = IsInside bytes u
+EntersInside bytes entered = Unit {0}
+
 -- an action there acts on this container's k-th value
 abbrev pub ActsOn : List ℕ → layout.Spot → List ℕ → Place → Type 0
 ActsOn bytes s ks Root = ⊥

@@ -2,3 +2,5 @@ pub mod View
 pub mod Stand
 pub mod Writes
 pub mod Led
+pub mod Draft
+pub mod Answer

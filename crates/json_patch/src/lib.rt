@@ -1,16 +1,17 @@
 //! The stored change: which bytes of a stored document an edit touches, or the new encoding where it can't be made in place.
 #![tactic(auto)]
 
+mod draft;
 mod error;
 mod parts;
 mod place;
-// mod plan;
+mod planning;
 mod room;
-// #[cfg(test)]
-// mod tests;
+#[cfg(test)]
+mod tests;
 mod trees;
 mod writes;
 
 pub use error::PlanError;
 pub use parts::{Parts, Patch, apply, unapply};
-// pub use plan::{Plan, plan};
+pub use planning::{Planned, plan};

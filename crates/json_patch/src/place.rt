@@ -6,7 +6,7 @@ ghost use Rattle.binary_model.specs.Stands.{IsValue};
 ghost use Rattle.binary_model.specs.Change.{positions};
 ghost use Rattle.json_path.specs.View.{leg_of};
 ghost use Rattle.json_binary.specs.Place.{container_of, spot_of, IsFramed, IsInside};
-ghost use Rattle.json_patch.specs.Led.{IsLed, IsEntered, IsNumber};
+ghost use Rattle.json_patch.specs.Led.{IsLed, IsEntered, IsNumber, EntersInside};
 ghost use Rattle.json_edit.specs.Places as places;
 
 use json_binary::{Container, Spot, child, container_in, member};
@@ -52,8 +52,9 @@ pub fn place_from(bytes: &[u8], spot: Spot, place: Place, legs: &[Leg]) -> Optio
 /// What a leg enters from a value.
 fn enter(bytes: &[u8], spot: Spot, leg: &Leg) -> Entered
     requires inside { IsInside bytes.now spot }
-    ensures { (t : Tree) → IsTree t → IsValue bytes.now t (spot_of spot) →
+    ensures entered { (t : Tree) → IsTree t → IsValue bytes.now t (spot_of spot) →
         IsEntered bytes.now (spot_of spot) t (leg_of leg.now) result }
+    ensures within { EntersInside bytes.now result }
 {
     let Some(container) = container_in(bytes, spot) else {
         if is_itself(leg) {

@@ -2,8 +2,30 @@
 ghost use Rattle.std.specs.Prelude.{map};
 ghost use Rattle.json_tree.specs.View.{tree_of, pair_of};
 ghost use Rattle.tree_model.specs.Tree.{IsTree, AreTrees, HoldTrees, trees, members};
+ghost use Rattle.binary_model.specs.Change as change;
+ghost use Rattle.json_edit.specs.Edits.{assigned, edit_of};
 
+use json_edit::{Edit, Pair};
 use json_tree::{Json, Member};
+
+/// Goes over the values that an edit sets.
+pub fn visit_edit(edit: &Edit)
+    ensures { change.SetsTrees (edit_of edit.now) }
+{
+    match edit {
+        Edit::Set(pairs) => visit_pairs(pairs.as_slice()),
+        Edit::Replace(pairs) => visit_pairs(pairs.as_slice()),
+        Edit::Remove(_) => {}
+    }
+}
+
+fn visit_pairs(pairs: &[Pair])
+    ensures { change.HoldTrees (map assigned pairs.now) }
+{
+    for pair in pairs {
+        visit(&pair.value);
+    }
+}
 
 /// Goes over a tree, whose types keep this, and does nothing.
 #[cycle(tree)]

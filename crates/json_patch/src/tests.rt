@@ -1,0 +1,82 @@
+//! Changes of stored documents, worked by hand from the rules of the format.
+use crate::{Planned, apply, plan, unapply};
+use json_binary::{decode, encode, used};
+use json_edit::{Edit, Pair, Pairs, Paths};
+use json_path::Path;
+use json_tree::{Json, from_text};
+use std::alloc::Global;
+use std::test::Fail;
+
+fn set_edit(alloc: Global, path: &str, value: &str) -> Result<Edit, Fail> {
+    let mut pairs = Vec::new(alloc);
+    pairs.push(Pair {
+        path: Path::parse(alloc, path)?,
+        value: from_text(alloc, value)?,
+    })?;
+    Ok(Edit::Set(Pairs::new(pairs)))
+}
+
+fn remove_edit(alloc: Global, path: &str) -> Result<Edit, Fail> {
+    let mut paths = Vec::new(alloc);
+    paths.push(Path::parse(alloc, path)?)?;
+    Ok(Edit::Remove(Paths::new(paths)))
+}
+
+fn stored(alloc: Global, text: &str) -> Result<Vec<u8>, Fail> {
+    let mut out = Vec::new(alloc);
+    encode(&from_text(alloc, text)?, &mut out)?;
+    Ok(out)
+}
+
+// Makes an edit in the bytes, and answers how many places differ; 1,000 where the change is full, 0 where it is none.
+fn step(alloc: Global, bytes: &mut Vec<u8>, path: &str, value: &str) -> Result<usize, Fail> {
+    let edit = if value == "" {
+        remove_edit(alloc, path)?
+    } else {
+        set_edit(alloc, path, value)?
+    };
+    match plan(alloc, bytes, &edit)? {
+        Planned::Same => Ok(0),
+        Planned::Full(_) => Ok(1000),
+        Planned::Parts(parts) => {
+            let mut places = 0;
+            for patch in parts.patches() {
+                places += patch.after.as_slice().len();
+            }
+            let mut before = Vec::new(alloc);
+            before.extend_from_slice(bytes)?;
+            apply(bytes, &parts);
+            let mut back = Vec::new(alloc);
+            back.extend_from_slice(bytes)?;
+            unapply(&mut back, &parts);
+            if back.as_slice() != before.as_slice() {
+                return Ok(2000);
+            }
+            Ok(places)
+        }
+    }
+}
+
+const WORKED: &str = r#"{"a":1000,"b":"wxyz","c":"[1, 3, 5, 7]"}"#;
+
+#[test]
+fn the_worked_changes(rt: HostRuntime) -> Result<(), Fail> {
+    let alloc = rt.alloc();
+    // Each line: path, value (none removes), places that differ, used length behind.
+    let cases: [(&str, &str, usize, u32); 5] = [
+        ("$.b", "\"a\"", 2, 44),
+        ("$.b", "\"wxyz\"", 2, 47),
+        ("$.b", "\"abcde\"", 1000, 47),
+        ("$.b", "1", 2, 42),
+        ("$.a[1]", "5", 1000, 42),
+    ];
+    let mut bytes = stored(alloc, WORKED)?;
+    for (path, value, places, free) in cases {
+        assert_eq!(rt; step(alloc, &mut bytes, path, value)?, places, "{path} {value}");
+        assert_eq!(rt; used(&bytes), free, "{path} {value}");
+    }
+    let mut bytes = stored(alloc, WORKED)?;
+    assert_eq!(rt; step(alloc, &mut bytes, "$.c", "")?, 7);
+    assert_eq!(rt; used(&bytes), 26);
+    Ok(())
+}
