@@ -1,12 +1,12 @@
 -- An edit that puts one value where a path leads, below the root: when it leaves its tree equal, how deep its tree is, and what is stored for it.
 use Rattle.std.proofs.Common.{◌≡◌, ◌≢◌, ℕ, zero, suc, ◌+◌, ◌≤◌, ◌<◌, max, Bool, true, false, true≢false, List, [], ◌∷◌, length, Option, Some, None, option_map, option_and_then, is_some, refl, sym, ap, subst, ◌∙◌, arith}
 use Rattle.tree_model.specs.Tree.{Tree, null, boolean, number, text, array, object, Trees, no_trees, tree, tree_list, Members, no_members, member, depth, trees_depth, members_depth, IsTree}
-use Rattle.std.proofs.Common.{◌++◌}
+use Rattle.std.proofs.Common.{◌++◌, ◌==◌, if◌then◌else◌}
 use Rattle.std.proofs.lemmas.Grind.{common_steps}
 use Rattle.tree_model.specs.Path.{Leg, key, cell, last, Path, child}
 use Rattle.tree_model.specs.Same.{same_tree}
 use Rattle.tree_model.proofs.SameLemmas.{tree_equal, tree_itself}
-use Rattle.binary_model.specs.Change.{position_of, positions}
+use Rattle.binary_model.specs.Change.{position_of, positions, Run, runs, runs_from, grown, differing}
 use Rattle.binary_model.proofs.AgreeLemmas.{some_is}
 use Rattle.binary_model.proofs.StandLemmas.{values}
 use Rattle.binary_model.proofs.RefitLemmas.{nth, with_element}
@@ -157,3 +157,25 @@ few_entered (l ∷ ls) t ks e = by_child (λ u js f. few_entered ls u js f) (chi
     by_child : ((u : Tree) (js : List ℕ) → positions ls u ≡ Some js → length js ≤ length ls) → (o : Option Tree) → option_and_then (λ u. option_map (λ js. position_of t l ++ js) (positions ls u)) o ≡ Some ks → length ks ≤ suc (length ls)
     by_child again None h = absurd (none_some ks h)
     by_child again (Some u) h = by_rest (positions ls u) (again u) h
+
+-- ---- no more places differ than there are
+
+grown_by_one : (at x y : ℕ) (rs : List Run) → differing (grown at x y rs) ≡ suc (differing rs)
+grown_by_one at x y [] = refl
+grown_by_one at x y (r ∷ rs) = by_place (suc at == r.at)
+  where
+    by_place : (b : Bool) → differing (if b then record { at = at; before = x ∷ r.before; after = y ∷ r.after } ∷ rs else record { at = at; before = x ∷ []; after = y ∷ [] } ∷ r ∷ rs) ≡ suc (differing (r ∷ rs))
+    by_place true = omega arith
+    by_place false = omega arith
+
+few_from : (at : ℕ) (xs ys : List ℕ) → differing (runs_from at xs ys) ≤ length xs
+few_from at [] ys = omega arith
+few_from at (x ∷ xs) [] = omega arith
+few_from at (x ∷ xs) (y ∷ ys) = by_same (x == y) (few_from (suc at) xs ys)
+  where
+    by_same : (b : Bool) → differing (runs_from (suc at) xs ys) ≤ length xs → differing (if b then runs_from (suc at) xs ys else grown at x y (runs_from (suc at) xs ys)) ≤ suc (length xs)
+    by_same true few = omega (arith, few)
+    by_same false few = let one : differing (grown at x y (runs_from (suc at) xs ys)) ≡ suc (differing (runs_from (suc at) xs ys)) = grown_by_one at x y (runs_from (suc at) xs ys) in omega (arith, one, few)
+
+pub few_places : (old new : List ℕ) → differing (runs old new) ≤ length old
+few_places old new = few_from 0 old new

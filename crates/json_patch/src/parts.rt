@@ -1,6 +1,6 @@
 //! Runs of differing places: found between two versions of a document, made and taken back.
 ghost use Rattle.std.specs.Prelude.{◌≡◌, ◌≢◌, ◌<◌, ◌≤◌, ◌+◌, ◌^◌, ◌∷◌, ◌++◌, ℕ, List, length, drop, map, slice_index, slice_range, IfOk};
-ghost use Rattle.binary_model.specs.Change.{put_all, put_back, runs, runs_from, written};
+ghost use Rattle.binary_model.specs.Change.{put_all, put_back, runs, runs_from, written, differing};
 ghost use Rattle.json_patch.specs.View.{run_of, runs_of, AreWithin};
 
 use smallvec::SmallVec;
@@ -26,6 +26,18 @@ impl Parts {
         ensures { map run_of result.now ≡ runs_of self.now }
     {
         self.patches.as_slice()
+    }
+
+    /// How many places differ.
+    pub fn places(&self) -> u32
+        requires { differing (runs_of self.now) ≤ 16777216 }
+        ensures { result ≡ differing (runs_of self.now) }
+    {
+        let mut places = 0u32;
+        for patch in &self.patches {
+            places += patch.before.len() as u32;
+        }
+        places
     }
 }
 
