@@ -75,7 +75,7 @@ none_left old new i high = subst (λ xs. FirstFrom (suc i) (runs_from i xs (drop
 gap_first : (old new : List ℕ) (i : ℕ) → length old ≡ length new → Ends old new i → FirstFrom (suc i) (from_place old new i)
 gap_first old new i e (inl high) = none_left old new i high
 gap_first old new i e (inr same) = elim (cases_lt i (length old)) [
-  inl low ↦ subst (FirstFrom (suc i)) (sym (let next : i + 1 ≡ suc i = omega arith in same_step old new i e low same ∙ ap (from_place old new) next)) (runs_first (suc i) (drop (suc i) old) (drop (suc i) new))
+  | inl low ↦ subst (FirstFrom (suc i)) (sym (let next : i + 1 ≡ suc i = omega arith in same_step old new i e low same ∙ ap (from_place old new) next)) (runs_first (suc i) (drop (suc i) old) (drop (suc i) new))
   | inr high ↦ none_left old new i high
 ]
 

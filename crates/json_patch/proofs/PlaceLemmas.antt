@@ -71,7 +71,7 @@ members_values bytes window ms d h =
     let many = h.2 in
     let low = keys_low ks bytes d 0 h.3 h.1.2 in
     let at_end : keys_end bytes d (0 + length ks) ≡ values_floor bytes d = ap (keys_end bytes d) (let z : 0 + length ks ≡ length ks = omega arith in z ∙ keys_length ms ∙ sym many)
-        ∙ sym (ap (λ b. cond b (keys_end bytes d (count bytes d)) (entries_end bytes d)) h.0) in
+    ∙ sym (ap (λ b. cond b (keys_end bytes d (count bytes d)) (entries_end bytes d)) h.0) in
     record {
       number = many ∙ values_length ms;
       elements = values_stand bytes d 0 (values_floor bytes d) ms h.4;
@@ -210,8 +210,7 @@ in_object bytes s c ms (key x) k u is framed h are m place inside =
     let many = h.2 in
     let low = m.0 in
     let z : k ≡ 0 + k = omega arith in
-    let found = member_is bytes (container_of c) x ms 0 (entries_end bytes (container_of c)) k h.3 (rising_from ms are) (omega (arith, low, many)) (ap (key_of bytes (container_of c)) (sym z) ∙ m.1) in
-    (
+    let found = member_is bytes (container_of c) x ms 0 (entries_end bytes (container_of c)) k h.3 (rising_from ms are) (omega (arith, low, many)) (ap (key_of bytes (container_of c)) (sym z) ∙ m.1) in (
       ap (λ i. i ∷ []) found.0,
       record { is = is; stands = (framed, (values ms, vs)); low = low },
       place,

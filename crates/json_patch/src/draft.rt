@@ -126,12 +126,7 @@ fn put_pair(
     })
 }
 
-fn take_path(
-    alloc: Global,
-    draft: Draft,
-    after: Json,
-    path: &Path,
-) -> Result<Draft, AllocError>
+fn take_path(alloc: Global, draft: Draft, after: Json, path: &Path) -> Result<Draft, AllocError>
     requires { IsDrafted draft }
     ensures { IfOk result (λ new. progress_of new
         ≡ change.step (taking path.now (tree_of draft.tree)) (tree_of after) (progress_of draft)) }

@@ -103,7 +103,11 @@ fn number_of(bytes: &[u8], container: Container, leg: &Leg) -> Option<usize>
         }
         Leg::Last(back) => {
             let back = *back as usize;
-            if back < count { Some(count - 1 - back) } else { None }
+            if back < count {
+                Some(count - 1 - back)
+            } else {
+                None
+            }
         }
     }
 }

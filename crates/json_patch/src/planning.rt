@@ -67,12 +67,7 @@ fn start(alloc: Global, tree: &Json, bytes: &[u8]) -> Result<Draft, AllocError>
     })
 }
 
-fn finish(
-    alloc: Global,
-    bytes: &[u8],
-    before: &Json,
-    draft: Draft,
-) -> Result<Planned, PlanError>
+fn finish(alloc: Global, bytes: &[u8], before: &Json, draft: Draft) -> Result<Planned, PlanError>
     requires small { length bytes.now ≤ 16777216 }
     requires length { IfSome (edited_bytes draft) (λ new. length bytes.now ≡ length new) }
     ensures { IsAnswer (change.finished bytes.now (tree_of before.now) (progress_of draft))

@@ -107,7 +107,13 @@ fn outside(
 {
     let start = room_start(bytes, container, k);
     let mut entry = Vec::new(alloc);
-    push_entry(value, measured, container.form, start - container.at, &mut entry)?;
+    push_entry(
+        value,
+        measured,
+        container.form,
+        start - container.at,
+        &mut entry,
+    )?;
     let value = value_bytes(alloc, value)?;
     let at = container.value_entry(bytes, k);
     two_writes(

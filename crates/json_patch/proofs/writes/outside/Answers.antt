@@ -23,6 +23,6 @@ returns c =
     let m = c.requires.measured in
     let start = c.room_start-start.ensures in
     let spelled = c.in_ok-push_entry.ensures.ok ∙ ap (λ xs. xs ++ entry form (c.room_start-start.result - c.args.container.at) (spelling t)) c.new-entry.ensures.items
-        ∙ ap (λ s. entry form (s - c.args.container.at) (spelling t)) start in
+    ∙ ap (λ s. entry form (s - c.args.container.at) (spelling t)) start in
     ok_then c.two_writes.result _ _ (λ ws all. made_outside c.args.bytes.now c.args.container c.args.k c.args.measured.size t _ _ ws.items c.requires.stands c.requires.inside
-      (sym (ap (is_inlined form) m.kind) ∙ c.requires.outside) m.size c.requires.near c.requires.fits c.value_entry-at.ensures.place spelled start c.in_ok-value.ensures all) c.two_writes.ensures
+    (sym (ap (is_inlined form) m.kind) ∙ c.requires.outside) m.size c.requires.near c.requires.fits c.value_entry-at.ensures.place spelled start c.in_ok-value.ensures all) c.two_writes.ensures
