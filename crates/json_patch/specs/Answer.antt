@@ -40,3 +40,8 @@ IsAnswer c nested size (Err e) = IsRefused c nested size e
 abbrev pub StaysInPlace : List ℕ → Tree → Result Planned PlanError → Type 0
 StaysInPlace bytes t (Ok (planned.Parts parts)) = AreWithin (length bytes) (runs_of parts) × Stands (put_all (runs_of parts) bytes) t × (length (put_all (runs_of parts) bytes) ≡ length bytes)
 StaysInPlace bytes t answer = Unit {0}
+
+-- a new encoding stands for the tree, within the limit
+abbrev pub IsEncoded : Tree → Result Planned PlanError → Type 0
+IsEncoded t (Ok (planned.Full out)) = Stands out.items t × (length out.items ≤ 16777216)
+IsEncoded t answer = Unit {0}

@@ -9,7 +9,7 @@ ghost use Rattle.json_tree.specs.View.{tree_of};
 ghost use Rattle.json_edit.specs.Edits.{edit_of};
 ghost use Rattle.json_binary.specs.Usage.{IsDocument};
 ghost use Rattle.json_patch.specs.Draft.{progress_of, IsDrafted, edited_bytes};
-ghost use Rattle.json_patch.specs.Answer.{IsAnswer, StaysInPlace};
+ghost use Rattle.json_patch.specs.Answer.{IsAnswer, StaysInPlace, IsEncoded};
 
 use crate::PlanError;
 use crate::draft::{Draft, edit_draft};
@@ -44,6 +44,8 @@ pub fn plan(alloc: Global, bytes: &[u8], edit: &Edit) -> Result<Planned, PlanErr
         (depth (edited (edit_of edit.now) t)) (canonical_length (edited (edit_of edit.now) t)) result }
     // Bytes changed in place stand for the edited tree.
     ensures stands { (t : Tree) → Stands bytes.now t → StaysInPlace bytes.now (edited (edit_of edit.now) t) result }
+    // So does a new encoding.
+    ensures encoded { (t : Tree) → Stands bytes.now t → IsEncoded (edited (edit_of edit.now) t) result }
 {
     visit_edit(edit);
     let Ok(tree) = decode(alloc, bytes) else {
@@ -70,8 +72,9 @@ fn start(alloc: Global, tree: &Json, bytes: &[u8]) -> Result<Draft, AllocError>
 fn finish(alloc: Global, bytes: &[u8], before: &Json, draft: Draft) -> Result<Planned, PlanError>
     requires small { length bytes.now ≤ 16777216 }
     requires length { IfSome (edited_bytes draft) (λ new. length bytes.now ≡ length new) }
-    ensures { IsAnswer (change.finished bytes.now (tree_of before.now) (progress_of draft))
+    ensures answer { IsAnswer (change.finished bytes.now (tree_of before.now) (progress_of draft))
         (depth (tree_of draft.tree)) (canonical_length (tree_of draft.tree)) result }
+    ensures encoded { IsEncoded (tree_of draft.tree) result }
 {
     if before.same(&draft.tree) {
         return Ok(Planned::Same);
@@ -88,8 +91,9 @@ fn finish(alloc: Global, bytes: &[u8], before: &Json, draft: Draft) -> Result<Pl
 
 fn encoded(alloc: Global, tree: &Json) -> Result<Planned, PlanError>
     requires { depth (tree_of tree.now) ≤ 100 }
-    ensures { IsAnswer (change.Full (canonical (tree_of tree.now))) (depth (tree_of tree.now))
+    ensures answer { IsAnswer (change.Full (canonical (tree_of tree.now))) (depth (tree_of tree.now))
         (canonical_length (tree_of tree.now)) result }
+    ensures encoded { IsEncoded (tree_of tree.now) result }
 {
     let mut out = Vec::new(alloc);
     match encode(tree, &mut out) {

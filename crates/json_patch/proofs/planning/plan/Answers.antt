@@ -1,10 +1,12 @@
-use Rattle.std.proofs.Common.{◌≡◌, ◌∙◌, ℕ, sym, ap, subst, length, IfSome, refl, rules}
+use Rattle.std.proofs.Common.{◌≡◌, ◌∙◌, ℕ, sym, ap, subst, length, Some, IfSome, refl, rules}
 use Rattle.tree_model.specs.Tree.{Tree, depth}
 use Rattle.tree_model.specs.Edit.{edited}
 use Rattle.binary_model.specs.Stands.{IsBytes, Stands}
 use Rattle.binary_model.specs.Canonical.{canonical_length}
 use Rattle.binary_model.specs.Change.{change}
 use Rattle.binary_model.proofs.StandLemmas.{one_tree}
+use Rattle.binary_model.proofs.ChangeLemmas.{same_edits}
+use Rattle.json_patch.specs.Answer.{IsEncoded}
 use Rattle.json_tree.specs.View.{tree_of}
 use Rattle.json_edit.specs.Edits.{edit_of}
 use Rattle.json_patch.specs.Draft.{progress_of}
@@ -26,7 +28,7 @@ returns-clause-answer c =
     let t = tree_of c.in-Ok.tree in
     let edit = edit_of c.args.edit.now in
     let q = whole_progress bytes t edit (progress_of c.in_ok-draft.draft) (progress_of c.in_ok-draft-2.draft) c.in_ok-draft.ensures.tree c.in_ok-draft.ensures.bytes c.in_ok-draft-2.ensures in
-    λ u s. answer_from bytes t u edit (progress_of c.in_ok-draft-2.draft) c.finish.result (one_tree bytes t u c.in-Ok.ensures.stands s) q c.finish.ensures
+    λ u s. answer_from bytes t u edit (progress_of c.in_ok-draft-2.draft) c.finish.result (one_tree bytes t u c.in-Ok.ensures.stands s) q c.finish.ensures.answer
 
 pub returns-clause-stands : goal.returns-clause-stands
 returns-clause-stands c =
@@ -36,4 +38,14 @@ returns-clause-stands c =
     let octets : IsBytes bytes = search rules in
     let q = whole_progress bytes t edit (progress_of c.in_ok-draft.draft) (progress_of c.in_ok-draft-2.draft) c.in_ok-draft.ensures.tree c.in_ok-draft.ensures.bytes c.in_ok-draft-2.ensures in
     λ u s. stays bytes u edit (canonical_length (edited edit u)) (change bytes u edit) c.finish.result refl octets s c.visit_edit.ensures
-    (answer_from bytes t u edit (progress_of c.in_ok-draft-2.draft) c.finish.result (one_tree bytes t u c.in-Ok.ensures.stands s) q c.finish.ensures)
+    (answer_from bytes t u edit (progress_of c.in_ok-draft-2.draft) c.finish.result (one_tree bytes t u c.in-Ok.ensures.stands s) q c.finish.ensures.answer)
+
+pub returns-clause-encoded : goal.returns-clause-encoded
+returns-clause-encoded c =
+    let bytes = c.args.bytes.now in
+    let t = tree_of c.in-Ok.tree in
+    let edit = edit_of c.args.edit.now in
+    let q = whole_progress bytes t edit (progress_of c.in_ok-draft.draft) (progress_of c.in_ok-draft-2.draft) c.in_ok-draft.ensures.tree c.in_ok-draft.ensures.bytes c.in_ok-draft-2.ensures in
+    λ u s. subst (λ v. IsEncoded v c.finish.result)
+        (ap (λ p. p.«tree») q ∙ same_edits edit (record { «tree» = t; edited = Some bytes }) ∙ ap (edited edit) (one_tree bytes t u c.in-Ok.ensures.stands s))
+        c.finish.ensures.encoded
