@@ -1,8 +1,8 @@
 -- Runs found from the left, one after the other, and written one after the other.
-use Rattle.std.proofs.Common.{◌≡◌, ◌≢◌, ◌≤◌, ◌<◌, ◌⊎◌, ℕ, zero, suc, ◌+◌, ◌-◌, Bool, true, false, ◌==◌, List, [], ◌∷◌, ◌++◌, length, map, take, drop, get_or, slice_index, slice_range, refl, sym, ap, ap₂, subst, ◌∙◌, arith, cond, inl, inr}
-use Rattle.std.proofs.lemmas.List.{drop_more, drop_all, map-append, append_assoc}
-use Rattle.std.proofs.lemmas.Bool.{cases_lt, eq-eqb, ne_eqb, eqb-true}
-use Rattle.binary_model.specs.Change.{Run, grown, runs_from, runs, put_all, put_back, written}
+use Rattle.std.proofs.Common.{◌≡◌, ◌≢◌, ◌≤◌, ◌<◌, ◌⊎◌, ℕ, zero, suc, ◌+◌, ◌-◌, Bool, true, false, ◌==◌, List, [], ◌∷◌, length, map, take, drop, get_or, slice_index, slice_range, refl, sym, ap, ap₂, subst, ◌∙◌, arith, cond, inl, inr}
+use Rattle.std.proofs.lemmas.List.{drop_more, drop_all}
+use Rattle.std.proofs.lemmas.Bool.{cases_lt, eq-eqb, ne_eqb}
+use Rattle.binary_model.specs.Change.{Run, grown, runs_from, runs, put_all, put_back}
 use Rattle.binary_model.proofs.RunLemmas.{runs_applied}
 use Rattle.binary_model.proofs.MaximalLemmas.{runs_put_back}
 use Rattle.json_patch.specs.declared.parts.Patch.{Patch}

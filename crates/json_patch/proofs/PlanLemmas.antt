@@ -1,5 +1,5 @@
 -- A draft goes on as the definition's progress does, and ends as its change.
-use Rattle.std.proofs.Common.{◌≡◌, ◌≤◌, ◌<◌, ℕ, suc, ◌+◌, ◌-◌, ◌^◌, min, Bool, true, false, List, [], ◌∷◌, ◌++◌, append-nil, length, map, take, drop, get_or, Option, Some, None, unwrap_or, option_map, option_and_then, Result, Ok, Err, IfSome, refl, sym, ap, ap₂, subst, ◌∙◌, arith, cond}
+use Rattle.std.proofs.Common.{◌≡◌, ◌≤◌, ◌<◌, ℕ, suc, ◌+◌, Bool, true, false, List, [], ◌∷◌, ◌++◌, append-nil, length, take, drop, Option, Some, None, unwrap_or, option_and_then, Result, Ok, Err, IfSome, refl, sym, ap, ap₂, subst, ◌∙◌, arith, cond}
 use Rattle.std.proofs.lemmas.List.{length-append, drop_all, take_all}
 use Rattle.tree_model.specs.Tree.{Tree, IsTree, depth}
 use Rattle.tree_model.specs.Path.{Path}
@@ -7,16 +7,14 @@ use Rattle.tree_model.specs.Edit.{Edit, Set, Replace, Remove, set, replace, remo
 use Rattle.tree_model.specs.Same.{same_tree}
 use Rattle.binary_model.specs.Layout as layout
 use Rattle.binary_model.specs.Layout.{root, count}
-use Rattle.binary_model.specs.Stands.{IsBytes, IsValue, Stands, max_nested}
+use Rattle.binary_model.specs.Stands.{IsBytes, IsValue, Stands}
 use Rattle.binary_model.specs.Place.{Holds}
 use Rattle.binary_model.specs.Canonical.{canonical, canonical_length}
 use Rattle.binary_model.specs.Change as change
 use Rattle.binary_model.specs.Change.{Progress, progress, positions, edited_at, written, at_holder, Run, runs, SetsTrees, put_all, stored_as, finished, AreApart, StandAt as Stood}
 use Rattle.binary_model.proofs.WrittenLemmas.{written_length}
 use Rattle.binary_model.proofs.MaximalLemmas.{runs_maximal}
-use Rattle.binary_model.proofs.StandLemmas.{one_tree}
-use Rattle.binary_model.proofs.LengthLemmas.{measured_length}
-use Rattle.binary_model.proofs.EditLemmas.{InPlace, Follows, progress_follows, edits_are}
+use Rattle.binary_model.proofs.EditLemmas.{Follows, progress_follows, edits_are}
 use Rattle.binary_model.proofs.ChangeLemmas.{same_edits}
 use Rattle.json_edit.specs.Acts.{Acts}
 use Rattle.json_binary.specs.declared.place.Container.{Container}

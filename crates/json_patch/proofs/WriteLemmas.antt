@@ -1,25 +1,24 @@
 -- The writes of an edit in place make what the definition says.
-use Rattle.std.proofs.Common.{◌≡◌, ◌≤◌, ◌<◌, ℕ, zero, suc, ◌+◌, ◌-◌, ◌*◌, ◌^◌, min, Bool, true, false, List, [], ◌∷◌, ◌++◌, length, take, drop, map, slice_range, get_or, Option, Some, None, Result, Ok, Err, IfOk, refl, sym, ap, ap₂, subst, ◌∙◌, arith, cond, nat_le, mul-le-mul_right}
+use Rattle.std.proofs.Common.{◌≡◌, ◌≤◌, ◌<◌, ℕ, zero, suc, ◌+◌, ◌-◌, ◌^◌, min, Bool, true, false, List, [], ◌∷◌, ◌++◌, length, drop, slice_range, get_or, Some, None, Result, Ok, Err, IfOk, refl, sym, ap, ap₂, subst, ◌∙◌, arith, cond, nat_le}
 use Rattle.std.proofs.lemmas.List.{length-append, length-take, drop_more}
 use Rattle.std.proofs.lemmas.Bool.{le-leb, lt-leb}
 use Rattle.std.specs.Int.{bytes_low_first}
-use Rattle.tree_model.specs.Tree.{Tree, Trees, no_trees, tree, tree_list}
+use Rattle.tree_model.specs.Tree.{Tree, Trees, tree_list}
 use Rattle.binary_model.specs.Layout as layout
 use Rattle.binary_model.specs.Layout.{word, code_of, is_inlined, count, end, header_end, key_entry, values_at, entries_end, value_entry, values_floor, value_width, key_width, child}
-use Rattle.binary_model.specs.Stands.{IsValue, AreElements}
-use Rattle.binary_model.specs.Canonical.{Spelling, spelling, inlined_bytes, low_bytes, measure, canonical}
+use Rattle.binary_model.specs.Canonical.{spelling, inlined_bytes, low_bytes, measure}
 use Rattle.binary_model.specs.Change.{written, end_before, start_from, room_start, room_end, in_entry, at_place, with_value, without_value, other_keys, other_values}
 use Rattle.binary_model.proofs.LengthLemmas.{measured-spelling, length-inlined, fits_tree}
-use Rattle.binary_model.proofs.AgainLemmas.{floor_low, entry_within, key_within, values_first}
-use Rattle.binary_model.proofs.RefitLemmas.{nth, rest, rest_length, ends_rise, FoundAt, element_at, floor_up}
-use Rattle.binary_model.proofs.ReplaceLemmas.{starts_within, ends_within, place_above}
+use Rattle.binary_model.proofs.AgainLemmas.{entry_within, key_within, values_first}
+use Rattle.binary_model.proofs.RefitLemmas.{nth, rest, rest_length, ends_rise, FoundAt, element_at}
+use Rattle.binary_model.proofs.ReplaceLemmas.{starts_within, place_above}
 use Rattle.json_binary.specs.Sizes.{capped}
 use Rattle.json_binary.specs.Writing.{entry}
 use Rattle.json_binary.specs.declared.place.Container.{Container}
 use Rattle.json_binary.specs.Place.{container_of, IsFramed}
 use Rattle.json_patch.specs.declared.writes.Write.{Write}
 use Rattle.json_patch.specs.Stand.{Values, HasValues}
-use Rattle.json_patch.specs.Writes.{put_writes, AreInside, IsMade}
+use Rattle.json_patch.specs.Writes.{IsMade}
 
 length-bytes_low_first : (i n x : ℕ) → length (bytes_low_first i n x) ≡ n
 length-bytes_low_first i zero x = refl
