@@ -34,16 +34,6 @@ use Rattle.json_patch.specs.Answer.{IsAnswer, StaysInPlace}
 
 -- ---- the place of a pair
 
-pub acts_nowhere : (bytes : List ℕ) (act : layout.Container → ℕ → Option (List ℕ)) (s : layout.Spot) (o : Option (List ℕ)) → IsLed bytes s Root o None → option_and_then (at_holder bytes act s) o ≡ None
-acts_nowhere bytes act s None h = refl
-acts_nowhere bytes act s (Some []) h = refl
-acts_nowhere bytes act s (Some (k ∷ ks)) h = absurd h
-
-pub acts_at_root : (bytes : List ℕ) (act : layout.Container → ℕ → Option (List ℕ)) (s : layout.Spot) (o : Option (List ℕ)) → IsLed bytes s Root o (Some Root) → option_and_then (at_holder bytes act s) o ≡ None
-acts_at_root bytes act s None h = refl
-acts_at_root bytes act s (Some []) h = refl
-acts_at_root bytes act s (Some (k ∷ ks)) h = absurd h
-
 abbrev ActsAt : List ℕ → layout.Spot → Option (List ℕ) → Container → ℕ → Type 0
 ActsAt bytes s o c k = HasValues bytes c × (k < count bytes (container_of c)) × ((act : layout.Container → ℕ → Option (List ℕ)) → option_and_then (at_holder bytes act s) o ≡ act (container_of c) k)
 
@@ -82,12 +72,6 @@ drafted_on edit p q sets h e =
 pub act_leaves : (o : Option Tree) (old new : Tree) (acted : Bool) → Acts o old new acted → new ≡ unwrap_or o old
 act_leaves None old new acted h = h.1
 act_leaves (Some t) old new acted h = h.1
-
-pub step_same : (edit : List ℕ → Option (List ℕ)) (after : Tree) (p : Progress) → same_tree p.«tree» after ≡ true → change.step edit after p ≡ p
-step_same edit after p e = ap (λ b. cond b p (record { «tree» = after; edited = option_and_then edit p.edited })) e
-
-pub step_other : (edit : List ℕ → Option (List ℕ)) (after : Tree) (p : Progress) → same_tree p.«tree» after ≡ false → change.step edit after p ≡ record { «tree» = after; edited = option_and_then edit p.edited }
-step_other edit after p e = ap (λ b. cond b p (record { «tree» = after; edited = option_and_then edit p.edited })) e
 
 -- the old bytes and those of the draft at the end are as many
 abbrev pub SameLength : List ℕ → Option (List ℕ) → Type 0
