@@ -1,12 +1,12 @@
 -- Runs found from the left, one after the other, and written one after the other.
-use Rattle.std.proofs.Common.{◌≡◌, ◌≢◌, ◌≤◌, ◌<◌, ◌⊎◌, ℕ, zero, suc, ◌+◌, ◌-◌, Bool, true, false, ◌==◌, List, [], ◌∷◌, ◌++◌, length, map, take, drop, get_or, slice_index, slice_range, refl, sym, ap, ap₂, subst, ◌∙◌, arith, cond, inl, inr}
-use Rattle.std.proofs.lemmas.List.{drop_more, drop_all, map-append, append_assoc}
-use Rattle.std.proofs.lemmas.Bool.{cases_lt, eq-eqb, ne_eqb, eqb-true}
-use Rattle.binary_model.specs.Change.{Run, grown, runs_from, runs, put_all, put_back, written}
+use Rattle.std.proofs.Common.{◌≡◌, ◌≢◌, ◌≤◌, ◌<◌, ◌⊎◌, ℕ, zero, suc, ◌+◌, ◌-◌, Bool, true, false, ◌==◌, List, [], ◌∷◌, length, map, take, drop, slice_index, slice_range, refl, sym, ap, ap₂, subst, ◌∙◌, arith, cond, inl, inr}
+use Rattle.std.proofs.lemmas.List.{drop_more, drop_all}
+use Rattle.std.proofs.lemmas.Bool.{cases_lt, eq-eqb, ne_eqb}
+use Rattle.binary_model.specs.Change.{Run, grown, runs_from, runs, put_all, put_back}
 use Rattle.binary_model.proofs.RunLemmas.{runs_applied}
 use Rattle.binary_model.proofs.MaximalLemmas.{runs_put_back}
 use Rattle.json_patch.specs.declared.parts.Patch.{Patch}
-use Rattle.json_patch.specs.View.{run_of, AreWithin}
+use Rattle.json_patch.specs.View.{run_of}
 
 behind : (xs : List ℕ) (i : ℕ) → i < length xs → drop i xs ≡ slice_index xs i ∷ drop (suc i) xs
 behind xs i low = let e : i + 1 ≡ suc i = omega arith in drop_more xs i 0 low ∙ ap (λ n. slice_index xs i ∷ drop n xs) e
@@ -114,13 +114,6 @@ run_found old new i j e low high all ends =
 
 abbrev pub left_runs : List Patch → ℕ → List Run
 left_runs items i = map run_of (drop i items)
-
-pub next_patch : (items : List Patch) (i : ℕ) (p : Patch) → i < length items → p ≡ get_or items i p → left_runs items i ≡ run_of p ∷ left_runs items (i + 1)
-next_patch items i p low e = ap (map run_of) (drop_more items i p low ∙ ap (λ q. q ∷ drop (i + 1) items) (sym e))
-
-pub within_first : (size : ℕ) (items : List Patch) (i : ℕ) (p : Patch) → i < length items → p ≡ get_or items i p → AreWithin size (left_runs items i)
-    → (length p.before.items ≡ length p.after.items) × (p.at + length p.after.items ≤ size) × AreWithin size (left_runs items (i + 1))
-within_first size items i p low e h = subst (AreWithin size) (next_patch items i p low e) h
 
 pub all_put : (items : List Patch) (i : ℕ) (bytes old new : List ℕ) → length items ≤ i → put_all (left_runs items i) bytes ≡ put_all (map run_of items) old
     → length old ≡ length new → map run_of items ≡ runs old new → bytes ≡ new

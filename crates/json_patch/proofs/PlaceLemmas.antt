@@ -1,5 +1,5 @@
 -- What a leg enters in place, and where legs lead.
-use Rattle.std.proofs.Common.{◌≡◌, ◌≢◌, ◌≤◌, ◌<◌, ℕ, zero, suc, ◌+◌, ◌-◌, ℤ, ◌==◌, ◌&&◌, Bool, true, false, List, [], ◌∷◌, ◌++◌, length, map, get_or, slice_get, bytes_eq, Option, Some, None, unwrap_or, option_map, option_and_then, Less, Equal, refl, sym, ap, ap₂, subst, ◌∙◌, arith, cond, nat_lt, IsSomeAnd, ◌⊎◌, inl, inr}
+use Rattle.std.proofs.Common.{◌≡◌, ◌≤◌, ◌<◌, ℕ, zero, suc, ◌+◌, ◌-◌, ℤ, ◌==◌, ◌&&◌, Bool, true, false, List, [], ◌∷◌, ◌++◌, length, map, get_or, slice_get, bytes_eq, Option, Some, None, unwrap_or, option_map, option_and_then, Less, Equal, refl, sym, ap, subst, ◌∙◌, arith, cond, nat_lt, IsSomeAnd, ◌⊎◌, inl, inr}
 use Rattle.std.proofs.lemmas.Bool.{ltb-true, ltb-false}
 use Rattle.std.proofs.lemmas.Option.{slice_get_past, slice_get-get_or}
 use Rattle.std.proofs.lemmas.Slice.Eq.{bytes_eq-Decides}
@@ -9,7 +9,7 @@ use Rattle.tree_model.proofs.KeyLemmas.{itself, other_bytes, same_bytes}
 use Rattle.tree_model.proofs.KeyOrder.{Above, Rising, rising_from}
 use Rattle.binary_model.specs.Layout as layout
 use Rattle.binary_model.specs.Layout.{Kind, signed, unsigned, kind_at, container_as, container_at, count, end, entries_end, key_of, key_end, keys_end, values_floor, child}
-use Rattle.binary_model.specs.Stands.{IsNumberAs, IsFrame, AreKeys, IsValue, AreElements, HoldValues}
+use Rattle.binary_model.specs.Stands.{IsNumberAs, AreKeys, IsValue, AreElements}
 use Rattle.binary_model.specs.Change.{member_position, position_of, positions, at_holder}
 use Rattle.binary_model.proofs.AgreeLemmas.{some_is}
 use Rattle.binary_model.proofs.StandLemmas.{values, values_stand, values_length, keys_length}
@@ -23,10 +23,9 @@ use Rattle.json_binary.specs.declared.place.Container.{Container}
 use Rattle.json_binary.specs.Place.{container_of, spot_of, IsFramed, IsInside}
 use Rattle.json_patch.specs.declared.place.Place.{Place}
 use Rattle.json_patch.specs.declared.place.Place.TheVariants.{Root, Inside}
-use Rattle.json_patch.specs.declared.place.Entered.{Entered}
 use Rattle.json_patch.specs.declared.place.Entered.TheVariants.{Nothing, Itself, Value}
-use Rattle.json_patch.specs.Stand.{Values, HasValues}
-use Rattle.json_patch.specs.Led.{IsIn, IsEntered, IsNumber, IsMember, ActsOn, IsLedTo, IsLed}
+use Rattle.json_patch.specs.Stand.{Values}
+use Rattle.json_patch.specs.Led.{IsIn, IsEntered, IsNumber, IsMember, IsLedTo, IsLed}
 use Rattle.json_patch.proofs.RoomLemmas.{kid_stands}
 
 -- ---- the container that a value is

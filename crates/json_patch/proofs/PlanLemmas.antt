@@ -1,5 +1,5 @@
 -- A draft goes on as the definition's progress does, and ends as its change.
-use Rattle.std.proofs.Common.{◌≡◌, ◌≤◌, ◌<◌, ℕ, suc, ◌+◌, ◌-◌, ◌^◌, min, Bool, true, false, List, [], ◌∷◌, ◌++◌, append-nil, length, map, take, drop, get_or, Option, Some, None, unwrap_or, option_map, option_and_then, Result, Ok, Err, IfSome, refl, sym, ap, ap₂, subst, ◌∙◌, arith, cond}
+use Rattle.std.proofs.Common.{◌≡◌, ◌≤◌, ◌<◌, ℕ, suc, ◌+◌, Bool, true, false, List, [], ◌∷◌, ◌++◌, append-nil, length, take, drop, Option, Some, None, unwrap_or, option_and_then, Result, Ok, Err, IfSome, refl, sym, ap, ap₂, subst, ◌∙◌, arith, cond}
 use Rattle.std.proofs.lemmas.List.{length-append, drop_all, take_all}
 use Rattle.tree_model.specs.Tree.{Tree, IsTree, depth}
 use Rattle.tree_model.specs.Path.{Path}
@@ -7,16 +7,14 @@ use Rattle.tree_model.specs.Edit.{Edit, Set, Replace, Remove, set, replace, remo
 use Rattle.tree_model.specs.Same.{same_tree}
 use Rattle.binary_model.specs.Layout as layout
 use Rattle.binary_model.specs.Layout.{root, count}
-use Rattle.binary_model.specs.Stands.{IsBytes, IsValue, Stands, max_nested}
+use Rattle.binary_model.specs.Stands.{IsBytes, IsValue, Stands}
 use Rattle.binary_model.specs.Place.{Holds}
 use Rattle.binary_model.specs.Canonical.{canonical, canonical_length}
 use Rattle.binary_model.specs.Change as change
 use Rattle.binary_model.specs.Change.{Progress, progress, positions, edited_at, written, at_holder, Run, runs, SetsTrees, put_all, stored_as, finished, AreApart, StandAt as Stood}
 use Rattle.binary_model.proofs.WrittenLemmas.{written_length}
 use Rattle.binary_model.proofs.MaximalLemmas.{runs_maximal}
-use Rattle.binary_model.proofs.StandLemmas.{one_tree}
-use Rattle.binary_model.proofs.LengthLemmas.{measured_length}
-use Rattle.binary_model.proofs.EditLemmas.{InPlace, Follows, progress_follows, edits_are}
+use Rattle.binary_model.proofs.EditLemmas.{Follows, progress_follows, edits_are}
 use Rattle.binary_model.proofs.ChangeLemmas.{same_edits}
 use Rattle.json_edit.specs.Acts.{Acts}
 use Rattle.json_binary.specs.declared.place.Container.{Container}
@@ -35,16 +33,6 @@ use Rattle.json_patch.specs.declared.error.PlanError.{PlanError}
 use Rattle.json_patch.specs.Answer.{IsAnswer, StaysInPlace}
 
 -- ---- the place of a pair
-
-pub acts_nowhere : (bytes : List ℕ) (act : layout.Container → ℕ → Option (List ℕ)) (s : layout.Spot) (o : Option (List ℕ)) → IsLed bytes s Root o None → option_and_then (at_holder bytes act s) o ≡ None
-acts_nowhere bytes act s None h = refl
-acts_nowhere bytes act s (Some []) h = refl
-acts_nowhere bytes act s (Some (k ∷ ks)) h = absurd h
-
-pub acts_at_root : (bytes : List ℕ) (act : layout.Container → ℕ → Option (List ℕ)) (s : layout.Spot) (o : Option (List ℕ)) → IsLed bytes s Root o (Some Root) → option_and_then (at_holder bytes act s) o ≡ None
-acts_at_root bytes act s None h = refl
-acts_at_root bytes act s (Some []) h = refl
-acts_at_root bytes act s (Some (k ∷ ks)) h = absurd h
 
 abbrev ActsAt : List ℕ → layout.Spot → Option (List ℕ) → Container → ℕ → Type 0
 ActsAt bytes s o c k = HasValues bytes c × (k < count bytes (container_of c)) × ((act : layout.Container → ℕ → Option (List ℕ)) → option_and_then (at_holder bytes act s) o ≡ act (container_of c) k)
@@ -84,12 +72,6 @@ drafted_on edit p q sets h e =
 pub act_leaves : (o : Option Tree) (old new : Tree) (acted : Bool) → Acts o old new acted → new ≡ unwrap_or o old
 act_leaves None old new acted h = h.1
 act_leaves (Some t) old new acted h = h.1
-
-pub step_same : (edit : List ℕ → Option (List ℕ)) (after : Tree) (p : Progress) → same_tree p.«tree» after ≡ true → change.step edit after p ≡ p
-step_same edit after p e = ap (λ b. cond b p (record { «tree» = after; edited = option_and_then edit p.edited })) e
-
-pub step_other : (edit : List ℕ → Option (List ℕ)) (after : Tree) (p : Progress) → same_tree p.«tree» after ≡ false → change.step edit after p ≡ record { «tree» = after; edited = option_and_then edit p.edited }
-step_other edit after p e = ap (λ b. cond b p (record { «tree» = after; edited = option_and_then edit p.edited })) e
 
 -- the old bytes and those of the draft at the end are as many
 abbrev pub SameLength : List ℕ → Option (List ℕ) → Type 0

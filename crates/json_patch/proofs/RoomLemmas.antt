@@ -1,16 +1,16 @@
 -- Values of a container in place, and the room between them.
-use Rattle.std.proofs.Common.{◌≡◌, ◌≤◌, ◌<◌, ℕ, zero, suc, ◌+◌, ◌-◌, ◌*◌, ◌^◌, Bool, true, false, List, [], ◌∷◌, length, Option, Some, None, refl, sym, ap, ap₂, subst, ◌∙◌, arith, cond, IsSomeAnd}
-use Rattle.tree_model.specs.Tree.{Tree, null, boolean, number, text, array, object, Trees, tree_list}
+use Rattle.std.proofs.Common.{◌≡◌, ◌<◌, ℕ, suc, ◌+◌, ◌-◌, Bool, true, false, List, sym, ap, subst, ◌∙◌, arith, cond}
+use Rattle.tree_model.specs.Tree.{Trees}
 use Rattle.binary_model.specs.Layout as layout
 use Rattle.binary_model.specs.Layout.{Kind, kind_at, kind_of, container_as, container_at, count, end, entries_end, value_entry, value_width, inlined, child, value_end, end_as, values_floor}
-use Rattle.binary_model.specs.Stands.{IsNumberAs, IsValue, AreElements}
-use Rattle.binary_model.specs.Change.{end_before, start_from, room_start, room_end}
+use Rattle.binary_model.specs.Stands.{IsValue}
+use Rattle.binary_model.specs.Change.{end_before, start_from, room_end}
 use Rattle.binary_model.proofs.StayLemmas.{bounds}
 use Rattle.binary_model.proofs.AgainLemmas.{entry_within}
 use Rattle.binary_model.proofs.RefitLemmas.{nth, rest, FoundAt, element_at}
 use Rattle.json_binary.specs.declared.place.Spot.{Spot}
 use Rattle.json_binary.specs.declared.place.Container.{Container}
-use Rattle.json_binary.specs.Place.{container_of, spot_of, IsFramed, IsInside}
+use Rattle.json_binary.specs.Place.{container_of, spot_of, IsInside}
 use Rattle.json_binary.specs.View.{form_of}
 use Rattle.json_patch.specs.Stand.{HasValue, Values, HasValues}
 

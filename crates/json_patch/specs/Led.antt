@@ -2,7 +2,7 @@
 --     IsNumber      the number that one leg finds in a container
 --     IsEntered      what one leg enters
 --     IsLed      the place that legs lead to, by the positions that they enter
-use Rattle.std.specs.Prelude.{◌≡◌, ◌<◌, ℕ, true, false, List, [], ◌∷◌, ◌++◌, length, map, Option, Some, None}
+use Rattle.std.specs.Prelude.{◌≡◌, ◌<◌, ℕ, true, false, List, [], ◌∷◌, length, map, Option, Some, None}
 use Rattle.tree_model.specs.Tree.{Tree, Members, member_list, get, AreMembers}
 use Rattle.tree_model.specs.Path.{Leg, key, child}
 use Rattle.binary_model.specs.Layout as layout

@@ -1,4 +1,4 @@
-use Rattle.std.proofs.Common.{◌≡◌, ◌∙◌, ap, subst, sym, option_map, Some, None, rules}
+use Rattle.std.proofs.Common.{◌≡◌, ap, subst, option_map, None, rules}
 use Rattle.binary_model.specs.Canonical.{spelling}
 use Rattle.binary_model.specs.Change.{with_value}
 use Rattle.json_tree.specs.View.{tree_of}

@@ -1,4 +1,4 @@
-use Rattle.std.proofs.Common.{◌≡◌, ◌∙◌, ap}
+use Rattle.std.proofs.Common.{◌∙◌, ap}
 use Rattle.tree_model.specs.Edit.{remove, try_remove}
 use Rattle.json_tree.specs.View.{tree_of}
 use Rattle.json_patch.specs.Draft.{progress_of, IsDrafted}

@@ -1,4 +1,4 @@
-use Rattle.std.proofs.Common.{◌≡◌, ◌∙◌, ap, ap₂}
+use Rattle.std.proofs.Common.{◌∙◌, ap₂}
 use Rattle.tree_model.specs.Edit.{set, try_set}
 use Rattle.json_tree.specs.View.{tree_of}
 use Rattle.json_patch.specs.Draft.{progress_of, IsDrafted}

@@ -1,4 +1,4 @@
-use Rattle.std.proofs.Common.{◌≡◌, ◌∙◌, ap, option_map}
+use Rattle.std.proofs.Common.{ap, option_map}
 use Rattle.binary_model.specs.Change.{without_value}
 use Rattle.json_tree.specs.View.{tree_of}
 use Rattle.json_binary.specs.Place.{spot_of}

@@ -1,4 +1,4 @@
-use Rattle.std.proofs.Common.{◌≤◌, length, ap, subst, sym, arith, rules}
+use Rattle.std.proofs.Common.{◌≤◌, length, rules}
 use Rattle.json_patch.proofs.PartLemmas.{all_put}
 use Rattle.json_patch.proofs.parts.apply.Goals as goal
 

@@ -1,4 +1,4 @@
-use Rattle.std.proofs.Common.{arith, rules, tests, inl, inr, eqb-true}
+use Rattle.std.proofs.Common.{arith, rules, tests, inl, inr}
 use Rattle.json_patch.proofs.PartLemmas.{run_found}
 use Rattle.json_patch.proofs.parts.differ_until.Goals as goal
 

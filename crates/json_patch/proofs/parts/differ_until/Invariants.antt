@@ -1,4 +1,4 @@
-use Rattle.std.proofs.Common.{◌≡◌, ◌≢◌, ◌≤◌, ◌<◌, ◌-◌, ℕ, length, slice_index}
+use Rattle.std.proofs.Common.{◌≢◌, ◌≤◌, ◌<◌, ◌-◌, ℕ, length, slice_index}
 use Rattle.json_patch.proofs.parts.differ_until.Given as goal
 
 abbrev pub invariant-loop-at : goal.invariant-loop-at

@@ -1,4 +1,4 @@
-use Rattle.std.proofs.Common.{◌≡◌, sym, subst, map}
+use Rattle.std.proofs.Common.{sym, subst, map}
 use Rattle.binary_model.specs.Change.{positions}
 use Rattle.json_path.specs.View.{leg_of}
 use Rattle.json_binary.specs.Place.{spot_of}

@@ -1,4 +1,3 @@
-use Rattle.std.proofs.Common.{◌≡◌}
 use Rattle.json_path.specs.View.{leg_of}
 use Rattle.json_binary.specs.Place.{container_of, spot_of}
 use Rattle.json_patch.proofs.PlaceLemmas.{entered_value, kid_there}

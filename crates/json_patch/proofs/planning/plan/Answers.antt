@@ -1,7 +1,7 @@
 use Rattle.std.proofs.Common.{◌≡◌, ◌∙◌, ℕ, sym, ap, subst, length, Some, IfSome, refl, rules}
 use Rattle.tree_model.specs.Tree.{Tree, depth}
 use Rattle.tree_model.specs.Edit.{edited}
-use Rattle.binary_model.specs.Stands.{IsBytes, Stands}
+use Rattle.binary_model.specs.Stands.{IsBytes}
 use Rattle.binary_model.specs.Canonical.{canonical_length}
 use Rattle.binary_model.specs.Change.{change}
 use Rattle.binary_model.proofs.StandLemmas.{one_tree}

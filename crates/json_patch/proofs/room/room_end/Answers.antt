@@ -1,4 +1,4 @@
-use Rattle.std.proofs.Common.{◌≡◌, ◌∙◌, sym, true, false, arith, rules}
+use Rattle.std.proofs.Common.{◌≡◌, ◌∙◌, sym, true, arith, rules}
 use Rattle.binary_model.specs.Layout as layout
 use Rattle.json_binary.specs.View.{form_of}
 use Rattle.json_patch.proofs.RoomLemmas.{on_over}

@@ -1,4 +1,4 @@
-use Rattle.std.proofs.Common.{◌≡◌, ◌∙◌, sym, ap, subst, map, arith}
+use Rattle.std.proofs.Common.{sym, subst, map, arith}
 use Rattle.tree_model.specs.Tree.{IsTree, AreTrees, HoldTrees, AreMembers, trees, members}
 use Rattle.tree_model.proofs.TreeLemmas.{member_list-members}
 use Rattle.json_tree.specs.View.{tree_of, pair_of}

@@ -1,4 +1,4 @@
-use Rattle.std.proofs.Common.{◌≡◌, ◌∙◌, sym, ap, arith, false}
+use Rattle.std.proofs.Common.{◌∙◌, sym, ap, arith}
 use Rattle.binary_model.specs.Layout.{is_inlined}
 use Rattle.json_tree.specs.View.{tree_of}
 use Rattle.json_binary.specs.View.{form_of}
