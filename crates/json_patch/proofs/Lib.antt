@@ -2,3 +2,4 @@ pub mod PartLemmas
 pub mod RoomLemmas
 pub mod WriteLemmas
 pub mod PlaceLemmas
+pub mod TouchLemmas

@@ -90,6 +90,7 @@ made_inlined bytes c k offset t w ws h low inl at items all =
       ap (λ b. cond b (Some (in_entry bytes d k v)) (cond (nat_le (room_start bytes d k + length v.1) (room_end bytes d k)) (Some (at_place bytes d k (room_start bytes d k) v)) None)) inside
           ∙ ap₂ (λ i xs. Some (written bytes i xs)) (sym at) (sym new),
       (omega (arith, size, wide, at, a, whole, last), tt),
+      (omega arith, tt),
     )
 
 -- at its place, in two writes
@@ -110,6 +111,7 @@ made_outside bytes c k size t w u ws h low out sized near fits at items at_value
     let l = lies bytes c k h low in
     let a = l.entry in
     let b = l.top in
+    let start = l.start in
     let whole = h.0.2 in
     let last = h.0.1 in
     let under : place + length v.1 ≤ room_end bytes d k = omega (arith, fits, sized, size_eq, b, last, near) in
@@ -118,6 +120,7 @@ made_outside bytes c k size t w u ws h low out sized near fits at items at_value
           ∙ ap (λ b. cond b (Some (at_place bytes d k place v)) None) (le-leb _ _ under)
           ∙ ap₂ (λ i xs. Some (written (written bytes i xs) place v.1)) (sym at) (sym new) ∙ ap₂ (λ i xs. Some (written (written bytes w.at w.bytes.items) i xs)) (sym at_value) (sym value),
       (omega (arith, size_w, wide, at, a, whole, last), (omega (arith, size_u, at_value, under, b, last), tt)),
+      (omega arith, (omega (arith, size_w, wide, at, a, start, at_value), tt)),
     )
 
 -- ---- removal
@@ -161,6 +164,7 @@ made_without bytes c k w u ws f low at items at_entries entries all =
       ap₂ (λ i xs. Some (written (written bytes i xs) (header_end d) (other_keys bytes d k ++ other_values bytes d k))) (sym at) (sym items)
           ∙ ap₂ (λ i xs. Some (written (written bytes w.at w.bytes.items) i xs)) (sym at_entries) (sym entries),
       (omega (arith, size_w, wide, at, head), (omega (arith, size_u, both, keys, one, two, values, inside, step, whole, last, at_entries), tt)),
+      (omega arith, (omega (arith, size_w, wide, at, at_entries), tt)),
     )
 
 -- ---- the writes, one after the other

@@ -8,6 +8,7 @@ mod place;
 mod room;
 // #[cfg(test)]
 // mod tests;
+mod touched;
 mod trees;
 mod writes;
 
