@@ -1,7 +1,7 @@
 -- Runs found from the left, place by place, while writes are made behind all that were made.
 use Rattle.std.proofs.Common.{◌≡◌, ◌≢◌, ◌≤◌, ◌<◌, ◌-◌, ◌^◌, min, ℕ, zero, suc, ◌+◌, Bool, true, false, ◌==◌, List, [], ◌∷◌, ◌++◌, length, map, take, drop, set, slice_index, get_or, refl, sym, ap, ap₂, subst, ◌∙◌, arith, cond}
 use Rattle.std.proofs.Math.Seq.{take-append_seam, drop-append-add, drop-append_seam, take-length}
-use Rattle.std.proofs.lemmas.List.{length-append, length-take-le, append_assoc, take-append-drop, drop-drop, take_more, take_more_set, length-set, map-append, get_or_default}
+use Rattle.std.proofs.lemmas.List.{length-append, length-take-le, append_assoc, take-append-drop, drop-drop, take_more, take_more_set, drop_more, length-set, map-append, get_or_default}
 use Rattle.std.proofs.lemmas.Bool.{eq-eqb, ne_eqb, eqb-true, eqb-false}
 use Rattle.binary_model.specs.Change.{Run, grown, runs_from, runs, written}
 use Rattle.binary_model.proofs.WrittenLemmas.{written_length}
@@ -263,6 +263,9 @@ touched_more bytes wanted w left rs more h f =
       inside = h.inside.1;
       whole = h.whole;
     }
+
+pub next_write : (items : List Write) (i : ℕ) (w : Write) → i < length items → w ≡ get_or items i w → drop i items ≡ w ∷ drop (i + 1) items
+next_write items i w low e = drop_more items i w low ∙ ap (λ q. q ∷ drop (i + 1) items) (sym e)
 
 pub touched_all : (bytes wanted : List ℕ) (rs : List Run) → Touched bytes wanted [] rs → rs ≡ runs bytes wanted
 touched_all bytes wanted rs h = h.found ∙ ap (runs bytes) h.whole

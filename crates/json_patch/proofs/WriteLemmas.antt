@@ -1,25 +1,23 @@
 -- The writes of an edit in place make what the definition says.
-use Rattle.std.proofs.Common.{◌≡◌, ◌≤◌, ◌<◌, ℕ, zero, suc, ◌+◌, ◌-◌, ◌*◌, ◌^◌, min, Bool, true, false, List, [], ◌∷◌, ◌++◌, length, take, drop, map, slice_range, get_or, Option, Some, None, Result, Ok, Err, IfOk, refl, sym, ap, ap₂, subst, ◌∙◌, arith, cond, nat_le, mul-le-mul_right}
-use Rattle.std.proofs.lemmas.List.{length-append, length-take, drop_more}
+use Rattle.std.proofs.Common.{◌≡◌, ◌≤◌, ◌<◌, ℕ, zero, suc, ◌+◌, ◌-◌, ◌^◌, min, false, List, [], ◌∷◌, length, drop, Some, None, Result, Ok, Err, IfOk, refl, sym, ap, ap₂, subst, ◌∙◌, arith, cond, nat_le}
 use Rattle.std.proofs.lemmas.Bool.{le-leb, lt-leb}
 use Rattle.std.specs.Int.{bytes_low_first}
-use Rattle.tree_model.specs.Tree.{Tree, Trees, no_trees, tree, tree_list}
+use Rattle.tree_model.specs.Tree.{Tree, Trees, tree_list}
 use Rattle.binary_model.specs.Layout as layout
 use Rattle.binary_model.specs.Layout.{word, code_of, is_inlined, count, end, header_end, key_entry, values_at, entries_end, value_entry, values_floor, value_width, key_width, child}
-use Rattle.binary_model.specs.Stands.{IsValue, AreElements}
-use Rattle.binary_model.specs.Canonical.{Spelling, spelling, inlined_bytes, low_bytes, measure, canonical}
-use Rattle.binary_model.specs.Change.{written, end_before, start_from, room_start, room_end, in_entry, at_place, with_value, without_value, other_keys, other_values}
-use Rattle.binary_model.proofs.LengthLemmas.{measured-spelling, length-inlined, fits_tree}
-use Rattle.binary_model.proofs.AgainLemmas.{floor_low, entry_within, key_within, values_first}
-use Rattle.binary_model.proofs.RefitLemmas.{nth, rest, rest_length, ends_rise, FoundAt, element_at, floor_up}
-use Rattle.binary_model.proofs.ReplaceLemmas.{starts_within, ends_within, place_above}
+use Rattle.binary_model.specs.Canonical.{spelling, inlined_bytes, low_bytes, measure}
+use Rattle.binary_model.specs.Change.{written, end_before, start_from, room_start, room_end, in_entry, at_place, with_value}
+use Rattle.binary_model.proofs.LengthLemmas.{measured-spelling}
+use Rattle.binary_model.proofs.AgainLemmas.{entry_within, values_first}
+use Rattle.binary_model.proofs.RefitLemmas.{nth, rest, rest_length, ends_rise, FoundAt, element_at}
+use Rattle.binary_model.proofs.ReplaceLemmas.{starts_within, place_above}
 use Rattle.json_binary.specs.Sizes.{capped}
 use Rattle.json_binary.specs.Writing.{entry}
 use Rattle.json_binary.specs.declared.place.Container.{Container}
-use Rattle.json_binary.specs.Place.{container_of, IsFramed}
+use Rattle.json_binary.specs.Place.{container_of}
 use Rattle.json_patch.specs.declared.writes.Write.{Write}
 use Rattle.json_patch.specs.Stand.{Values, HasValues}
-use Rattle.json_patch.specs.Writes.{put_writes, AreInside, IsMade}
+use Rattle.json_patch.specs.Writes.{IsMade}
 
 length-bytes_low_first : (i n x : ℕ) → length (bytes_low_first i n x) ≡ n
 length-bytes_low_first i zero x = refl
@@ -72,27 +70,6 @@ too_long bytes c k size t out sized long =
     ap (λ b. cond b (Some (in_entry bytes c k v)) (cond (nat_le (room_start bytes c k + length v.1) (room_end bytes c k)) (Some (at_place bytes c k (room_start bytes c k) v)) None)) outside
     ∙ ap (λ b. cond b (Some (at_place bytes c k (room_start bytes c k) v)) None) (lt-leb _ _ over)
 
--- inlined, in one write
-pub made_inlined : (bytes : List ℕ) (c : Container) (k offset : ℕ) (t : Tree) (w : Write) (ws : List Write) → HasValues bytes c → k < count bytes (container_of c) → is_inlined (container_of c).form (measure t).0 ≡ true
-    → w.at ≡ value_entry bytes (container_of c) k → w.bytes.items ≡ entry (container_of c).form offset (spelling t) → ws ≡ w ∷ [] → IsMade bytes (with_value bytes (spelling t) (container_of c) k) (Some ws)
-made_inlined bytes c k offset t w ws h low inl at items all =
-    let d = container_of c in
-    let v = spelling t in
-    let inside : is_inlined d.form v.0 ≡ true = ap (is_inlined d.form) (kind_of_value t) ∙ inl in
-    let new : w.bytes.items ≡ code_of v.0 ∷ inlined_bytes d.form v = items ∙ ap (λ b. code_of v.0 ∷ cond b (inlined_bytes d.form v) (low_bytes (word d.form) offset)) inside in
-    let wide = length-inlined d.form v (fits_tree t d.form inside) in
-    let size = ap length new in
-    let l = lies bytes c k h low in
-    let a = l.entry in
-    let whole = h.0.2 in
-    let last = h.0.1 in
-    subst (λ us. IsMade bytes (with_value bytes v d k) (Some us)) (sym all) (
-      ap (λ b. cond b (Some (in_entry bytes d k v)) (cond (nat_le (room_start bytes d k + length v.1) (room_end bytes d k)) (Some (at_place bytes d k (room_start bytes d k) v)) None)) inside
-          ∙ ap₂ (λ i xs. Some (written bytes i xs)) (sym at) (sym new),
-      (omega (arith, size, wide, at, a, whole, last), tt),
-      (omega arith, tt),
-    )
-
 -- at its place, in two writes
 pub made_outside : (bytes : List ℕ) (c : Container) (k size : ℕ) (t : Tree) (w u : Write) (ws : List Write) → HasValues bytes c → k < count bytes (container_of c) → is_inlined (container_of c).form (measure t).0 ≡ false
     → size ≡ capped (measure t).1 → length bytes < 2 ^ 63 → min (room_start bytes (container_of c) k + size) (2 ^ 64 - 1) ≤ room_end bytes (container_of c) k
@@ -125,55 +102,10 @@ made_outside bytes c k size t w u ws h low out sized near fits at items at_value
 
 -- ---- removal
 
-range_short : (xs : List ℕ) (a b : ℕ) → length (slice_range xs a b) ≤ b - a
-range_short xs a b = let e = length-take (b - a) (drop a xs) in omega (arith, e)
-
-keys_short : (bytes : List ℕ) (c : layout.Container) (k : ℕ) → k < count bytes c → (b : Bool) → c.keyed ≡ b
-    → header_end c + length (cond b (slice_range bytes (header_end c) (key_entry c k) ++ slice_range bytes (key_entry c (suc k)) (values_at bytes c)) []) ≤ values_at bytes c
-keys_short bytes c k low false e = let first = values_first bytes c in omega (arith, first)
-keys_short bytes c k low true e =
-    let at : values_at bytes c ≡ key_entry c (count bytes c) = ap (λ b. cond b (key_entry c (count bytes c)) (header_end c)) e in
-    let inside = key_within c k (count bytes c) low in
-    let step : key_entry c (suc k) ≡ key_entry c k + key_width c.form = omega arith in
-    let one = range_short bytes (header_end c) (key_entry c k) in
-    let two = range_short bytes (key_entry c (suc k)) (values_at bytes c) in
-    let both = length-append (slice_range bytes (header_end c) (key_entry c k)) (slice_range bytes (key_entry c (suc k)) (values_at bytes c)) in
-    omega (arith, at, inside, step, one, two, both)
-
-pub made_without : (bytes : List ℕ) (c : Container) (k : ℕ) (w u : Write) (ws : List Write) → IsFramed bytes c → k < count bytes (container_of c)
-    → w.at ≡ c.at → w.bytes.items ≡ low_bytes (word (container_of c).form) (count bytes (container_of c) - 1)
-    → u.at ≡ header_end (container_of c) → u.bytes.items ≡ other_keys bytes (container_of c) k ++ other_values bytes (container_of c) k → ws ≡ w ∷ u ∷ []
-    → IsMade bytes (without_value bytes (container_of c) k) (Some ws)
-made_without bytes c k w u ws f low at items at_entries entries all =
-    let d = container_of c in
-    let n = count bytes d - 1 in
-    let wide = length-bytes_low_first 0 (word d.form) n in
-    let size_w = ap length items in
-    let size_u = ap length entries in
-    let both = length-append (other_keys bytes d k) (other_values bytes d k) in
-    let keys = keys_short bytes d k low d.keyed refl in
-    let one = range_short bytes (values_at bytes d) (value_entry bytes d k) in
-    let two = range_short bytes (value_entry bytes d (suc k)) (entries_end bytes d) in
-    let values = length-append (slice_range bytes (values_at bytes d) (value_entry bytes d k)) (slice_range bytes (value_entry bytes d (suc k)) (entries_end bytes d)) in
-    let inside = entry_within bytes d k (count bytes d) low in
-    let step : value_entry bytes d (suc k) ≡ value_entry bytes d k + value_width d.form = omega arith in
-    let head = f.0 in
-    let last = f.1 in
-    let whole = f.2 in
-    subst (λ us. IsMade bytes (without_value bytes d k) (Some us)) (sym all) (
-      ap₂ (λ i xs. Some (written (written bytes i xs) (header_end d) (other_keys bytes d k ++ other_values bytes d k))) (sym at) (sym items)
-          ∙ ap₂ (λ i xs. Some (written (written bytes w.at w.bytes.items) i xs)) (sym at_entries) (sym entries),
-      (omega (arith, size_w, wide, at, head), (omega (arith, size_u, both, keys, one, two, values, inside, step, whole, last, at_entries), tt)),
-      (omega arith, (omega (arith, size_w, wide, at, at_entries), tt)),
-    )
-
 -- ---- the writes, one after the other
 
 abbrev pub left_writes : List Write → ℕ → List Write
 left_writes items i = drop i items
-
-pub next_write : (items : List Write) (i : ℕ) (w : Write) → i < length items → w ≡ get_or items i w → drop i items ≡ w ∷ drop (i + 1) items
-next_write items i w low e = drop_more items i w low ∙ ap (λ q. q ∷ drop (i + 1) items) (sym e)
 
 pub ok_then : {X E : Type 0} (r : Result X E) (P Q : X → Type 0) → ((x : X) → P x → Q x) → IfOk r P → IfOk r Q
 ok_then (Ok x) P Q f h = f x h

@@ -1,8 +1,8 @@
 use Rattle.std.proofs.Common.{sym, subst, map, ◌+◌}
 use Rattle.json_patch.specs.View.{run_of}
 use Rattle.json_patch.specs.Writes.{put_writes}
-use Rattle.json_patch.proofs.WriteLemmas.{left_writes, next_write}
-use Rattle.json_patch.proofs.TouchLemmas.{Touched, touched_none, touched_more}
+use Rattle.json_patch.proofs.WriteLemmas.{left_writes}
+use Rattle.json_patch.proofs.TouchLemmas.{Touched, touched_none, touched_more, next_write}
 use Rattle.json_patch.proofs.touched.runs_of_writes.Goals as goal
 
 pub loop-write-init : goal.loop-write-init
