@@ -15,7 +15,7 @@ mod usage;
 mod writer;
 
 pub use cursor::{child, container_in, member, root};
-pub use decoder::decode;
+pub use decoder::{decode, decode_value};
 pub use encoder::encode;
 pub use error::{DecodeError, EncodeError};
 pub use layout::{Form, Kind, Width};

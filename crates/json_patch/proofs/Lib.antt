@@ -4,3 +4,4 @@ pub mod WriteLemmas
 pub mod PlaceLemmas
 pub mod SingleLemmas
 pub mod PlanLemmas
+pub mod TouchLemmas

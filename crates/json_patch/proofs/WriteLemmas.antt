@@ -88,6 +88,7 @@ made_outside bytes c k size t w u ws h low out sized near fits at items at_value
     let l = lies bytes c k h low in
     let a = l.entry in
     let b = l.top in
+    let start = l.start in
     let whole = h.0.2 in
     let last = h.0.1 in
     let under : place + length v.1 ≤ room_end bytes d k = omega (arith, fits, sized, size_eq, b, last, near) in
@@ -96,6 +97,7 @@ made_outside bytes c k size t w u ws h low out sized near fits at items at_value
           ∙ ap (λ b. cond b (Some (at_place bytes d k place v)) None) (le-leb _ _ under)
           ∙ ap₂ (λ i xs. Some (written (written bytes i xs) place v.1)) (sym at) (sym new) ∙ ap₂ (λ i xs. Some (written (written bytes w.at w.bytes.items) i xs)) (sym at_value) (sym value),
       (omega (arith, size_w, wide, at, a, whole, last), (omega (arith, size_u, at_value, under, b, last), tt)),
+      (omega arith, (omega (arith, size_w, wide, at, a, start, at_value), tt)),
     )
 
 -- ---- removal

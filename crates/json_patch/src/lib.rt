@@ -9,6 +9,7 @@ mod planning;
 mod room;
 #[cfg(test)]
 mod tests;
+mod touched;
 mod trees;
 mod writes;
 

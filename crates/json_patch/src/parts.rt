@@ -1,5 +1,5 @@
 //! Runs of differing places: found between two versions of a document, made and taken back.
-ghost use Rattle.std.specs.Prelude.{◌≡◌, ◌≢◌, ◌<◌, ◌≤◌, ◌+◌, ◌^◌, ◌∷◌, ◌++◌, ℕ, List, length, drop, map, slice_index, slice_range, IfOk};
+ghost use Rattle.std.specs.Prelude.{◌≡◌, ◌≢◌, ◌<◌, ◌≤◌, ◌+◌, ◌^◌, ◌∷◌, ◌++◌, ◌==◌, ℕ, List, [], length, drop, map, slice_index, slice_range, IfOk, OnOk};
 ghost use Rattle.binary_model.specs.Change.{put_all, put_back, runs, runs_from, written, differing};
 ghost use Rattle.json_patch.specs.View.{run_of, runs_of, AreWithin};
 
@@ -20,7 +20,56 @@ pub struct Parts {
     patches: Vec<Patch>,
 }
 
+impl Patch {
+    /// One differing place.
+    pub(crate) fn of_place(
+        alloc: Global,
+        at: usize,
+        before: u8,
+        after: u8,
+    ) -> Result<Self, AllocError>
+        requires small { at ≤ 16777216 }
+        ensures { IfOk result (λ p. run_of p ≡ record { at = at; before = before ∷ []; after = after ∷ [] }) }
+    {
+        Ok(Patch {
+            at: at as u32,
+            before: SmallVec::from_slice(alloc, &[before])?,
+            after: SmallVec::from_slice(alloc, &[after])?,
+        })
+    }
+
+    /// Whether its bytes before the change end at a place.
+    #[tactic(auto, using(crate::proofs::TouchLemmas::ends_capped))]
+    pub(crate) fn ends_at(&self, place: usize) -> bool
+        requires small { place ≤ 16777216 }
+        ensures { result ≡ (self.now.at + length self.now.before.items == place) }
+    {
+        (self.at as usize).saturating_add(self.before.len()) == place
+    }
+
+    /// Adds the differing place right behind it. At `Err` its bytes before and after may be of
+    /// two lengths.
+    pub(crate) fn grow(&mut self, before: u8, after: u8) -> Result<(), AllocError>
+        ensures { OnOk result (run_of self.new ≡ record {
+          at = self.old.at;
+          before = self.old.before.items ++ before ∷ [];
+          after = self.old.after.items ++ after ∷ [];
+        }) }
+    {
+        self.before.push(before)?;
+        self.after.push(after)?;
+        Ok(())
+    }
+}
+
 impl Parts {
+    /// Of patches in rising order.
+    pub(crate) fn from_patches(patches: Vec<Patch>) -> Self
+        ensures { runs_of result ≡ map run_of patches.items }
+    {
+        Parts { patches }
+    }
+
     /// The patches, in rising order of their places.
     pub fn patches(&self) -> &[Patch]
         ensures { map run_of result.now ≡ runs_of self.now }
