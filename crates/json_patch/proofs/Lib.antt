@@ -2,6 +2,6 @@ pub mod PartLemmas
 pub mod RoomLemmas
 pub mod WriteLemmas
 pub mod PlaceLemmas
-pub mod SingleLemmas
 pub mod PlanLemmas
 pub mod TouchLemmas
+pub mod SingleLemmas

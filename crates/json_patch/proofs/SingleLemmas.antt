@@ -1,16 +1,19 @@
 -- An edit that puts one value where a path leads, below the root: when it leaves its tree equal, how deep its tree is, and what is stored for it.
 use Rattle.std.proofs.Common.{◌≡◌, ◌≢◌, ℕ, zero, suc, ◌+◌, ◌≤◌, ◌<◌, max, Bool, true, false, true≢false, List, [], ◌∷◌, length, Option, Some, None, option_map, option_and_then, is_some, refl, sym, ap, subst, ◌∙◌, arith}
-use Rattle.tree_model.specs.Tree.{Tree, null, boolean, number, text, array, object, Trees, no_trees, tree, tree_list, Members, no_members, member, depth, trees_depth, members_depth, IsTree}
+use Rattle.tree_model.specs.Tree.{Tree, null, boolean, number, text, array, object, Trees, no_trees, tree, tree_list, Members, no_members, member, depth, trees_depth, members_depth, IsTree, AreTrees, HoldTrees}
 use Rattle.std.proofs.Common.{◌++◌, ◌==◌, if◌then◌else◌}
 use Rattle.std.proofs.lemmas.Grind.{common_steps}
 use Rattle.tree_model.specs.Path.{Leg, key, cell, last, Path, child}
 use Rattle.tree_model.specs.Same.{same_tree}
 use Rattle.tree_model.proofs.SameLemmas.{tree_equal, tree_itself}
-use Rattle.binary_model.specs.Change.{position_of, positions, Run, runs, runs_from, grown, differing}
+use Rattle.binary_model.specs.Layout as layout
+use Rattle.binary_model.specs.Stands.{IsValue}
+use Rattle.binary_model.specs.Change.{position_of, positions, at_holder, Run, runs, runs_from, grown, differing, Progress, step, replaced_by, finished, Same, Parts}
+use Rattle.json_patch.specs.Draft.{putting}
 use Rattle.binary_model.proofs.AgreeLemmas.{some_is}
 use Rattle.binary_model.proofs.StandLemmas.{values}
-use Rattle.binary_model.proofs.RefitLemmas.{nth, with_element}
-use Rattle.binary_model.proofs.KidsLemmas.{kids, with_nth_member, with_kid}
+use Rattle.binary_model.proofs.RefitLemmas.{nth, with_element, element_at}
+use Rattle.binary_model.proofs.KidsLemmas.{kids, with_nth_member, with_kid, Kids, to_kids}
 use Rattle.binary_model.proofs.LiftLemmas.{Reaches}
 use Rattle.binary_model.proofs.PositionLemmas.{put_at}
 
@@ -179,3 +182,86 @@ few_from at (x ∷ xs) (y ∷ ys) = by_same (x == y) (few_from (suc at) xs ys)
 
 pub few_places : (old new : List ℕ) → differing (runs old new) ≤ length old
 few_places old new = few_from 0 old new
+
+-- ---- the value stands in place
+
+trees_nth : (ts : Trees) (n : ℕ) → AreTrees ts → IsTree (nth ts n)
+trees_nth no_trees n h = tt
+trees_nth (tree t ts) zero h = h.0
+trees_nth (tree t ts) (suc n) h = trees_nth ts n h.1
+
+values_trees : (ms : Members) → HoldTrees ms → AreTrees (values ms)
+values_trees no_members h = tt
+values_trees (member k t ms) h = (h.0, values_trees ms h.1)
+
+kid_tree : (t : Tree) (n : ℕ) → IsTree t → IsTree (nth (kids t) n)
+kid_tree null n h = tt
+kid_tree (boolean b) n h = tt
+kid_tree (number z) n h = tt
+kid_tree (text s) n h = tt
+kid_tree (array ts) n h = trees_nth ts n h
+kid_tree (object ms) n h = trees_nth (values ms) n (values_trees ms h.1)
+
+pub at_tree : (ks : List ℕ) (t : Tree) → IsTree t → IsTree (value_at ks t)
+at_tree [] t h = h
+at_tree (k ∷ ks) t h = at_tree ks (nth (kids t) k) (kid_tree t k h)
+
+pub at_shallow : (ks : List ℕ) (t : Tree) (most : ℕ) → Reaches ks t → depth t ≤ most → depth (value_at ks t) ≤ most
+at_shallow [] t most r h = h
+at_shallow (k ∷ ks) t most r h = let kid : suc (depth (nth (kids t) k)) ≤ depth t = below_deep t k r.0 in at_shallow ks (nth (kids t) k) most r.1 (omega (arith, kid, h))
+
+-- the spot of a container's value, as what an act may hand on
+spot_act : List ℕ → layout.Container → ℕ → Option (List ℕ)
+spot_act bytes c k = Some ((layout.child bytes c k).tag ∷ (layout.child bytes c k).at ∷ (layout.child bytes c k).window ∷ [])
+
+spot_from : Option (List ℕ) → layout.Spot
+spot_from (Some (tag ∷ at ∷ window ∷ [])) = record { tag = tag; at = at; window = window }
+spot_from o = record { tag = 0; at = 0; window = 0 }
+
+same_spot : (bytes : List ℕ) (c d : layout.Container) (k n : ℕ) → spot_act bytes c k ≡ spot_act bytes d n → layout.child bytes c k ≡ layout.child bytes d n
+unfolding spot_act spot_from
+same_spot bytes c d k n e = ap spot_from e
+
+kid_stands : (bytes : List ℕ) (t : Tree) (s : layout.Spot) (c : layout.Container) (k : ℕ) → Kids bytes t s c → k < length (tree_list (kids t)) → IsValue bytes (nth (kids t) k) (layout.child bytes c k)
+kid_stands bytes t s c k h low =
+    let e : 0 + k ≡ k = omega arith in
+    subst (λ i. IsValue bytes (nth (kids t) k) (layout.child bytes c i)) e (element_at bytes c (kids t) 0 k h.elements low).1
+
+pub stands_there : (ks : List ℕ) (k : ℕ) (bytes : List ℕ) (t : Tree) (s : layout.Spot) (c : layout.Container) (n : ℕ) → IsValue bytes t s → Reaches (k ∷ ks) t
+    → ((act : layout.Container → ℕ → Option (List ℕ)) → at_holder bytes act s (k ∷ ks) ≡ act c n) → IsValue bytes (value_at (k ∷ ks) t) (layout.child bytes c n)
+stands_there [] k bytes t s c n v r acts =
+    let low = r.0 in
+    let (d, h) = to_kids bytes t s v (omega (arith, low)) in
+    let same = sym (ap (option_and_then (λ c. spot_act bytes c k)) h.is) ∙ acts (spot_act bytes) in
+    subst (IsValue bytes (nth (kids t) k)) (same_spot bytes d c k n same) (kid_stands bytes t s d k h low)
+stands_there (l ∷ ls) k bytes t s c n v r acts =
+    let low = r.0 in
+    let (d, h) = to_kids bytes t s v (omega (arith, low)) in
+    stands_there ls l bytes (nth (kids t) k) (layout.child bytes d k) c n (kid_stands bytes t s d k h low) r.1
+    (λ act. sym (ap (option_and_then (λ c. at_holder bytes act (layout.child bytes c k) (l ∷ ls))) h.is) ∙ acts act)
+
+-- ---- the change of one pair
+
+step_same : (edit : List ℕ → Option (List ℕ)) (after : Tree) (p : Progress) → same_tree p.«tree» after ≡ true → step edit after p ≡ p
+step_same edit after p h = rw h refl
+
+step_other : (edit : List ℕ → Option (List ℕ)) (after : Tree) (p : Progress) → same_tree p.«tree» after ≡ false → step edit after p ≡ record { «tree» = after; edited = option_and_then edit p.edited }
+step_other edit after p h = rw h refl
+
+module _ (bytes : List ℕ) (t u : Tree) (path : Path) (ks : List ℕ) (act : Path → Tree → Tree → Tree)
+    (put : (act path u t ≡ put_at ks u t) × Reaches ks t) where
+  same_after : same_tree t (act path u t) ≡ same_tree (value_at ks t) u
+  same_after = ap (same_tree t) put.0 ∙ same_put ks u t put.1
+
+  pub single_same : same_tree (value_at ks t) u ≡ true → finished bytes t (replaced_by act path u (record { «tree» = t; edited = Some bytes })) ≡ Same
+  single_same h =
+      let as_it_was = step_same (putting path u t) (act path u t) (record { «tree» = t; edited = Some bytes }) (same_after ∙ h) in
+      ap (finished bytes t) as_it_was ∙ rw (tree_itself t) refl
+
+  pub single_parts : (new : List ℕ) → same_tree (value_at ks t) u ≡ false → putting path u t bytes ≡ Some new → finished bytes t (replaced_by act path u (record { «tree» = t; edited = Some bytes })) ≡ Parts (runs bytes new)
+  single_parts new h made =
+      let stepped = step_other (putting path u t) (act path u t) (record { «tree» = t; edited = Some bytes }) (same_after ∙ h) in
+      ap (finished bytes t) (stepped ∙ ap (λ o. record { «tree» = act path u t; edited = o }) made) ∙ rw (same_after, h) refl
+
+  pub single_shallow : (most : ℕ) → depth t ≤ most → length ks + depth u ≤ most → depth (act path u t) ≤ most
+  single_shallow most h g = subst (λ x. depth x ≤ most) (sym put.0) (put_deep ks u t most put.1 h g)

@@ -4,3 +4,4 @@ pub mod Writes
 pub mod Led
 pub mod Draft
 pub mod Answer
+pub mod Single

@@ -7,6 +7,7 @@ mod parts;
 mod place;
 mod planning;
 mod room;
+mod single;
 #[cfg(test)]
 mod tests;
 mod touched;

@@ -21,7 +21,7 @@ use json_tree::Json;
 use std::alloc::{AllocError, Global};
 
 /// How many containers may be nested.
-const MAX_NESTED: u32 = 100;
+pub const MAX_NESTED: u32 = 100;
 
 /// How an edit is stored.
 #[derive(Drop)]

@@ -47,5 +47,5 @@ returns-clause-encoded c =
     let edit = edit_of c.args.edit.now in
     let q = whole_progress bytes t edit (progress_of c.in_ok-draft.draft) (progress_of c.in_ok-draft-2.draft) c.in_ok-draft.ensures.tree c.in_ok-draft.ensures.bytes c.in_ok-draft-2.ensures in
     λ u s. subst (λ v. IsEncoded v c.finish.result)
-        (ap (λ p. p.«tree») q ∙ same_edits edit (record { «tree» = t; edited = Some bytes }) ∙ ap (edited edit) (one_tree bytes t u c.in-Ok.ensures.stands s))
-        c.finish.ensures.encoded
+    (ap (λ p. p.«tree») q ∙ same_edits edit (record { «tree» = t; edited = Some bytes }) ∙ ap (edited edit) (one_tree bytes t u c.in-Ok.ensures.stands s))
+    c.finish.ensures.encoded
