@@ -1,21 +1,36 @@
 -- An edit that puts one value where a path leads, below the root: when it leaves its tree equal, how deep its tree is, and what is stored for it.
 use Rattle.std.proofs.Common.{◌≡◌, ◌≢◌, ℕ, zero, suc, ◌+◌, ◌≤◌, ◌<◌, max, Bool, true, false, true≢false, List, [], ◌∷◌, length, Option, Some, None, option_map, option_and_then, is_some, refl, sym, ap, subst, ◌∙◌, arith}
 use Rattle.tree_model.specs.Tree.{Tree, null, boolean, number, text, array, object, Trees, no_trees, tree, tree_list, Members, no_members, member, depth, trees_depth, members_depth, IsTree, AreTrees, HoldTrees}
-use Rattle.std.proofs.Common.{◌++◌, ◌==◌, if◌then◌else◌}
+use Rattle.std.proofs.Common.{◌++◌, ◌==◌, if◌then◌else◌, ◌⊎◌, inl, inr}
 use Rattle.std.proofs.lemmas.Grind.{common_steps}
 use Rattle.tree_model.specs.Path.{Leg, key, cell, last, Path, child}
 use Rattle.tree_model.specs.Same.{same_tree}
 use Rattle.tree_model.proofs.SameLemmas.{tree_equal, tree_itself}
 use Rattle.binary_model.specs.Layout as layout
-use Rattle.binary_model.specs.Stands.{IsValue}
-use Rattle.binary_model.specs.Change.{position_of, positions, at_holder, Run, runs, runs_from, grown, differing, Progress, step, replaced_by, finished, Same, Parts}
+use Rattle.binary_model.specs.Stands.{IsValue, Stands}
+use Rattle.binary_model.specs.Canonical.{spelling, canonical_length}
+use Rattle.tree_model.specs.Edit as model
+use Rattle.tree_model.specs.Edit.{set, replace}
+use Rattle.json_binary.specs.Place.{container_of}
+use Rattle.json_binary.specs.declared.place.Container.{Container}
+use Rattle.json_patch.specs.View.{runs_of}
+use Rattle.json_patch.specs.Stand.{HasValues}
+use Rattle.json_patch.specs.Led.{IsLed, ActsOn}
+use Rattle.json_patch.specs.Single.{IsPlanOf, IsInPlace}
+use Rattle.json_patch.specs.Answer.{IsStored, IsEncoded}
+use Rattle.json_patch.specs.declared.place.Place.TheVariants.{Root, Inside}
+use Rattle.json_patch.specs.declared.parts.Parts.{Parts as Changed}
+use Rattle.std.specs.Prelude.{Ok}
+use Rattle.json_patch.specs.declared.planning.Planned.{Planned}
+use Rattle.json_patch.specs.declared.planning.Planned.TheVariants as planned
+use Rattle.binary_model.specs.Change.{position_of, positions, at_holder, Run, runs, runs_from, grown, differing, Progress, step, replaced_by, with_value, finished, Same, Parts}
 use Rattle.json_patch.specs.Draft.{putting}
 use Rattle.binary_model.proofs.AgreeLemmas.{some_is}
 use Rattle.binary_model.proofs.StandLemmas.{values}
 use Rattle.binary_model.proofs.RefitLemmas.{nth, with_element, element_at}
 use Rattle.binary_model.proofs.KidsLemmas.{kids, with_nth_member, with_kid, Kids, to_kids}
 use Rattle.binary_model.proofs.LiftLemmas.{Reaches}
-use Rattle.binary_model.proofs.PositionLemmas.{put_at}
+use Rattle.binary_model.proofs.PositionLemmas.{put_at, set_positions, replace_positions}
 
 -- the value where the positions lead
 abbrev pub value_at : List ℕ → Tree → Tree
@@ -265,3 +280,73 @@ module _ (bytes : List ℕ) (t u : Tree) (path : Path) (ks : List ℕ) (act : Pa
 
   pub single_shallow : (most : ℕ) → depth t ≤ most → length ks + depth u ≤ most → depth (act path u t) ≤ most
   single_shallow most h g = subst (λ x. depth x ≤ most) (sym put.0) (put_deep ks u t most put.1 h g)
+
+-- ---- where the place is known
+
+led_inside : (bytes : List ℕ) (s : layout.Spot) (o : Option (List ℕ)) (c : Container) (k : ℕ) → IsLed bytes s Root o (Some (Inside c k))
+    → (j : ℕ) × (js : List ℕ) × (o ≡ Some (j ∷ js)) × ActsOn bytes s (j ∷ js) (Inside c k)
+led_inside bytes s None c k h = let no : ⊥ = cc in absurd no
+led_inside bytes s (Some []) c k h = let no : ⊥ = cc in absurd no
+led_inside bytes s (Some (j ∷ js)) c k h = (j, js, refl, h)
+
+-- the place that a path leads to in bytes that stand for a tree, and the value there
+pub record Place (bytes : List ℕ) (t : Tree) (path : Path) (c : Container) (k : ℕ) : Type 0 where
+  pub first : ℕ
+  pub others : List ℕ
+  pub at : positions path t ≡ Some (first ∷ others)
+  pub values : HasValues bytes c
+  pub low : k < layout.count bytes (container_of c)
+  pub acts : (act : layout.Container → ℕ → Option (List ℕ)) → at_holder bytes act (layout.root bytes) (first ∷ others) ≡ act (container_of c) k
+  pub reaches : Reaches (first ∷ others) t
+  pub there : IsValue bytes (value_at (first ∷ others) t) (layout.child bytes (container_of c) k)
+  pub is : IsTree (value_at (first ∷ others) t)
+  pub shallow : depth (value_at (first ∷ others) t) ≤ 100
+
+pub place_found : (bytes : List ℕ) (t : Tree) (path : Path) (s : layout.Spot) (c : Container) (k : ℕ) → Stands bytes t → s ≡ layout.root bytes → IsLed bytes s Root (positions path t) (Some (Inside c k)) → Place bytes t path c k
+place_found bytes t path s c k stands root led =
+    let found = led_inside bytes (layout.root bytes) (positions path t) c k (subst (λ s. IsLed bytes s Root (positions path t) (Some (Inside c k))) root led) in
+    let reach = (set_positions path null t (found.0 ∷ found.1) stands.«tree» found.2).1 in
+    record {
+      first = found.0;
+      others = found.1;
+      at = found.2;
+      values = found.3.0;
+      low = found.3.1;
+      acts = found.3.2;
+      reaches = reach;
+      there = stands_there found.1 found.0 bytes t (layout.root bytes) (container_of c) k stands.value reach found.3.2;
+      is = at_tree (found.0 ∷ found.1) t stands.«tree»;
+      shallow = at_shallow (found.0 ∷ found.1) t 100 reach stands.nested;
+    }
+
+-- ---- the plan of one pair
+
+module _ (bytes : List ℕ) (t u : Tree) (path : Path) (c : Container) (k : ℕ) (stands : Stands bytes t) (p : Place bytes t path c k) where
+  made_there : (new : List ℕ) → with_value bytes (spelling u) (container_of c) k ≡ Some new → putting path u t bytes ≡ Some new
+  made_there new made = ap (option_and_then (at_holder bytes (with_value bytes (spelling u)) (layout.root bytes))) p.at ∙ p.acts (with_value bytes (spelling u)) ∙ made
+
+  pub same_plan : (e : model.Edit) → (e ≡ model.Set ((path, u) ∷ [])) ⊎ (e ≡ model.Replace ((path, u) ∷ [])) → same_tree (value_at (p.first ∷ p.others) t) u ≡ true → IsPlanOf bytes t e planned.Same
+  same_plan e (inl is) h = subst (λ e. IsPlanOf bytes t e planned.Same) (sym is)
+      (subst (λ c. IsStored c (depth (set path u t)) (canonical_length (set path u t)) planned.Same) (sym (single_same bytes t u path (p.first ∷ p.others) set (set_positions path u t (p.first ∷ p.others) stands.«tree» p.at) h)) tt)
+  same_plan e (inr is) h = subst (λ e. IsPlanOf bytes t e planned.Same) (sym is)
+      (subst (λ c. IsStored c (depth (replace path u t)) (canonical_length (replace path u t)) planned.Same) (sym (single_same bytes t u path (p.first ∷ p.others) replace (replace_positions path u t (p.first ∷ p.others) stands.«tree» p.at) h)) tt)
+
+  pub parts_plan : (e : model.Edit) → (e ≡ model.Set ((path, u) ∷ [])) ⊎ (e ≡ model.Replace ((path, u) ∷ [])) → same_tree (value_at (p.first ∷ p.others) t) u ≡ false
+      → (new : List ℕ) → with_value bytes (spelling u) (container_of c) k ≡ Some new → length path + depth u ≤ 100 → (parts : Changed) → runs_of parts ≡ runs bytes new → IsPlanOf bytes t e (planned.Parts parts)
+  parts_plan e (inl is) h new made low parts runs_are =
+      let put = set_positions path u t (p.first ∷ p.others) stands.«tree» p.at in
+      let few : length (p.first ∷ p.others) ≤ length path = few_entered path t (p.first ∷ p.others) p.at in
+      subst (λ e. IsPlanOf bytes t e (planned.Parts parts)) (sym is)
+      (subst (λ c. IsStored c (depth (set path u t)) (canonical_length (set path u t)) (planned.Parts parts)) (sym (single_parts bytes t u path (p.first ∷ p.others) set put new h (made_there new made)))
+      (single_shallow bytes t u path (p.first ∷ p.others) set put 100 stands.nested (omega (arith, few, low)), runs_are))
+  parts_plan e (inr is) h new made low parts runs_are =
+      let put = replace_positions path u t (p.first ∷ p.others) stands.«tree» p.at in
+      let few : length (p.first ∷ p.others) ≤ length path = few_entered path t (p.first ∷ p.others) p.at in
+      subst (λ e. IsPlanOf bytes t e (planned.Parts parts)) (sym is)
+      (subst (λ c. IsStored c (depth (replace path u t)) (canonical_length (replace path u t)) (planned.Parts parts)) (sym (single_parts bytes t u path (p.first ∷ p.others) replace put new h (made_there new made)))
+      (single_shallow bytes t u path (p.first ∷ p.others) replace put 100 stands.nested (omega (arith, few, low)), runs_are))
+
+pub none_encoded : (t : Tree) (plan : Planned) → IsInPlace plan → IsEncoded t (Ok plan)
+none_encoded t planned.Same h = tt
+none_encoded t (planned.Parts parts) h = tt
+none_encoded t (planned.Full out) h = absurd h

@@ -4,6 +4,7 @@ ghost use Rattle.tree_model.specs.Tree.{Tree, depth};
 ghost use Rattle.tree_model.specs.Edit.{edited};
 ghost use Rattle.binary_model.specs.Stands.{Stands};
 ghost use Rattle.binary_model.specs.Change as change;
+ghost use Rattle.binary_model.specs.Change.{SetsTrees};
 ghost use Rattle.binary_model.specs.Canonical.{canonical, canonical_length};
 ghost use Rattle.json_tree.specs.View.{tree_of};
 ghost use Rattle.json_edit.specs.Edits.{edit_of};
@@ -14,6 +15,7 @@ ghost use Rattle.json_patch.specs.Answer.{IsAnswer, StaysInPlace, IsEncoded};
 use crate::PlanError;
 use crate::draft::{Draft, edit_draft};
 use crate::parts::{Parts, runs_between};
+use crate::single::{only_pair, plan_single};
 use crate::trees::visit_edit;
 use json_binary::{EncodeError, decode, encode};
 use json_edit::Edit;
@@ -35,7 +37,8 @@ pub enum Planned {
 }
 
 /// What an edit makes of a stored document: nothing where the tree stays equal; else patches where
-/// each pair could be made in place; else a new encoding.
+/// each pair could be made in place; else a new encoding. An edit of one pair that replaces a value
+/// in place, or leaves it equal, costs its path and that value; any other one costs the document.
 pub fn plan(alloc: Global, bytes: &[u8], edit: &Edit) -> Result<Planned, PlanError>
     requires document { IsDocument bytes.now }
     requires small { length bytes.now ≤ 16777216 }
@@ -48,6 +51,24 @@ pub fn plan(alloc: Global, bytes: &[u8], edit: &Edit) -> Result<Planned, PlanErr
     ensures encoded { (t : Tree) → Stands bytes.now t → IsEncoded (edited (edit_of edit.now) t) result }
 {
     visit_edit(edit);
+    if let Some(pair) = only_pair(edit) {
+        if let Some(planned) = plan_single(alloc, bytes, pair)? {
+            return Ok(planned);
+        }
+    }
+    plan_whole(alloc, bytes, edit)
+}
+
+// The plan by the document's tree, and a copy of its bytes.
+fn plan_whole(alloc: Global, bytes: &[u8], edit: &Edit) -> Result<Planned, PlanError>
+    requires document { IsDocument bytes.now }
+    requires small { length bytes.now ≤ 16777216 }
+    requires sets { SetsTrees (edit_of edit.now) }
+    ensures answer { (t : Tree) → Stands bytes.now t → IsAnswer (change.change bytes.now t (edit_of edit.now))
+        (depth (edited (edit_of edit.now) t)) (canonical_length (edited (edit_of edit.now) t)) result }
+    ensures stands { (t : Tree) → Stands bytes.now t → StaysInPlace bytes.now (edited (edit_of edit.now) t) result }
+    ensures encoded { (t : Tree) → Stands bytes.now t → IsEncoded (edited (edit_of edit.now) t) result }
+{
     let Ok(tree) = decode(alloc, bytes) else {
         return Err(PlanError::Memory);
     };

@@ -5,7 +5,7 @@ ghost use Rattle.tree_model.specs.Edit as model;
 ghost use Rattle.binary_model.specs.Stands.{Stands};
 ghost use Rattle.json_edit.specs.Edits.{edit_of};
 ghost use Rattle.json_binary.specs.Usage.{IsDocument};
-ghost use Rattle.json_patch.specs.Single.{IsPlanOf, IsEditBy};
+ghost use Rattle.json_patch.specs.Single.{IsPlanOf, IsInPlace, IsEditBy};
 
 use crate::place::{Place, place_from};
 use crate::planning::{MAX_NESTED, Planned};
@@ -37,8 +37,9 @@ pub fn only_pair(edit: &Edit) -> Option<&Pair>
 pub fn plan_single(alloc: Global, bytes: &[u8], pair: &Pair) -> Result<Option<Planned>, AllocError>
     requires document { IsDocument bytes.now }
     requires small { length bytes.now ≤ 16777216 }
-    ensures { IfOk result (λ found. IfSome found (λ plan.
+    ensures plan { IfOk result (λ found. IfSome found (λ plan.
         (t : Tree) (e : model.Edit) → Stands bytes.now t → IsEditBy pair.now e → IsPlanOf bytes.now t e plan)) }
+    ensures in_place { IfOk result (λ found. IfSome found IsInPlace) }
 {
     let legs = pair.path.legs();
     if legs.len() as u32 > MAX_NESTED || pair.value.depth() > MAX_NESTED - legs.len() as u32 {
