@@ -6,7 +6,7 @@ ghost use Rattle.tree_model.specs.Path as spec;
 ghost use Rattle.tree_model.specs.Edit.{set_at, added, replaced, taken_out};
 ghost use Rattle.json_edit.specs.Acts.{Acts, act_of, IsSet};
 
-use crate::children::{child, place, put_child, take_child};
+use crate::children::{child, place_in_list, put_child, take_child};
 use json_path::Leg;
 use json_tree::{Json, List};
 use std::alloc::{AllocError, Global};
@@ -97,7 +97,7 @@ fn remove_child(tree: &mut Json, leg: &Leg) -> bool
         (tree_of tree.old) (tree_of tree.new) result }
 {
     match tree {
-        Json::List(list) => match place(list.len(), leg) {
+        Json::List(list) => match place_in_list(list.len(), leg) {
             Some(at) => {
                 list.remove(at);
                 true

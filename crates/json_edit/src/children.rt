@@ -1,5 +1,5 @@
 // What one leg finds in a tree: shown, taken out, and put back.
-ghost use Rattle.std.specs.Prelude.{◌≡◌, option_map, Some, IsSome, IsNone, IfSome, true, false};
+ghost use Rattle.std.specs.Prelude.{◌≡◌, ◌<◌, option_map, Some, IsSome, IsNone, IfSome, true, false};
 ghost use Rattle.json_tree.specs.View.{tree_of};
 ghost use Rattle.json_path.specs.View.{leg_of};
 ghost use Rattle.tree_model.specs.Tree.{null};
@@ -12,9 +12,10 @@ use json_path::Leg;
 use json_tree::Json;
 use std::mem;
 
-/// The position in a list of so many elements.
-pub fn place(count: usize, leg: &Leg) -> Option<usize>
-    ensures { result ≡ place_in count (leg_of leg.now) }
+/// A leg's position in a list of so many elements.
+pub fn place_in_list(count: usize, leg: &Leg) -> Option<usize>
+    ensures place { result ≡ place_in count (leg_of leg.now) }
+    ensures within { IfSome result (λ k. k < count) }
 {
     match leg {
         Leg::Member(_) => None,
@@ -33,7 +34,8 @@ pub fn place(count: usize, leg: &Leg) -> Option<usize>
     }
 }
 
-fn is_itself(leg: &Leg) -> bool
+/// Whether a leg on a value that isn't a list finds the value itself.
+pub fn is_itself(leg: &Leg) -> bool
     ensures { result ≡ places.is_itself (leg_of leg.now) }
 {
     matches!(leg, Leg::Cell(0) | Leg::Last(0))
@@ -45,7 +47,7 @@ pub fn child<'a>(tree: &'a Json, leg: &Leg) -> Option<&'a Json>
         ≡ spec.child (tree_of tree.now) (leg_of leg.now) }
 {
     match (tree, leg) {
-        (Json::List(list), _) => match place(list.len(), leg) {
+        (Json::List(list), _) => match place_in_list(list.len(), leg) {
             Some(at) => list.get(at),
             None => None,
         },
@@ -64,7 +66,7 @@ pub fn take_child(tree: &mut Json, leg: &Leg) -> Option<Json>
     ensures absent { IsNone result → tree_of tree.new ≡ tree_of tree.old }
 {
     match tree {
-        Json::List(list) => match place(list.len(), leg) {
+        Json::List(list) => match place_in_list(list.len(), leg) {
             Some(at) => Some(list.replace(at, Json::Null)),
             None => None,
         },
@@ -97,7 +99,7 @@ pub fn put_child(tree: &mut Json, leg: &Leg, value: Json)
 {
     match tree {
         Json::List(list) => {
-            if let Some(at) = place(list.len(), leg) {
+            if let Some(at) = place_in_list(list.len(), leg) {
                 list.replace(at, value);
             }
         }

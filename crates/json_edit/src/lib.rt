@@ -11,6 +11,7 @@ mod statement;
 #[cfg(test)]
 mod tests;
 
+pub use children::{is_itself, place_in_list};
 pub use edit::{remove, replace, set};
 pub use lookup::find;
 pub use pairs::{Edit, Pair, Pairs, Paths};

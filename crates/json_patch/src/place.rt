@@ -7,9 +7,9 @@ ghost use Rattle.binary_model.specs.Change.{positions};
 ghost use Rattle.json_path.specs.View.{leg_of};
 ghost use Rattle.json_binary.specs.Place.{container_of, spot_of, IsFramed, IsInside};
 ghost use Rattle.json_patch.specs.Led.{IsLed, IsEntered, IsNumber, EntersInside};
-ghost use Rattle.json_edit.specs.Places as places;
 
 use json_binary::{Container, Spot, child, container_in, member};
+use json_edit::{is_itself, place_in_list};
 use json_path::Leg;
 
 /// A value's place.
@@ -75,13 +75,6 @@ fn enter(bytes: &[u8], spot: Spot, leg: &Leg) -> Entered
     }
 }
 
-/// Whether a leg on a value that isn't a list finds the value itself.
-fn is_itself(leg: &Leg) -> bool
-    ensures { result ≡ places.is_itself (leg_of leg.now) }
-{
-    matches!(leg, Leg::Cell(0) | Leg::Last(0))
-}
-
 /// The number of the value that a leg finds in a container.
 fn number_of(bytes: &[u8], container: Container, leg: &Leg) -> Option<usize>
     requires framed { IsFramed bytes.now container }
@@ -94,20 +87,5 @@ fn number_of(bytes: &[u8], container: Container, leg: &Leg) -> Option<usize>
             _ => None,
         };
     }
-    let count = container.count(bytes);
-    match leg {
-        Leg::Member(_) => None,
-        Leg::Cell(at) => {
-            let at = *at as usize;
-            if at < count { Some(at) } else { None }
-        }
-        Leg::Last(back) => {
-            let back = *back as usize;
-            if back < count {
-                Some(count - 1 - back)
-            } else {
-                None
-            }
-        }
-    }
+    place_in_list(container.count(bytes), leg)
 }

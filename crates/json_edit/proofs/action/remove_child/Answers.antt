@@ -11,14 +11,14 @@ use Rattle.json_edit.proofs.action.remove_child.Goals as goal
 pub returns-in-Some : goal.returns-in-Some
 returns-in-Some c =
     let l = leg_of c.args.leg.now in
-    let at = ap (λ n. place_in n l) (sym c.len.ensures) ∙ sym c.place.ensures ∙ c.in-Some.is in
+    let at = ap (λ n. place_in n l) (sym c.len.ensures) ∙ sym c.place_in_list.ensures.place ∙ c.in-Some.is in
     acts_in _ _ _ (array (trees (remove c.in-List.list c.in-Some.at)))
     (ap (λ t. taken_out (tree_of t) l) c.in-List.is ∙ out_in c.in-List.list l c.in-Some.at (tree_of c.remove.result) at c.remove.ensures.before) (ap (λ us. array (trees us)) c.remove.ensures.after)
 
 pub returns-in-None : goal.returns-in-None
 returns-in-None c =
     let l = leg_of c.args.leg.now in
-    let at = ap (λ n. place_in n l) (sym c.len.ensures) ∙ sym c.place.ensures ∙ c.in-None.is in
+    let at = ap (λ n. place_in n l) (sym c.len.ensures) ∙ sym c.place_in_list.ensures.place ∙ c.in-None.is in
     rw c.in-List.is (acts_out _ _ (out_out c.in-List.list l at))
 
 pub returns-in-Member : goal.returns-in-Member
