@@ -1,4 +1,8 @@
 //! Changes of stored documents, worked by hand from the rules of the format.
+ghost use Rattle.std.specs.Prelude.{IfOk, Ok};
+ghost use Rattle.tree_model.specs.Tree.{Tree};
+ghost use Rattle.json_patch.specs.Answer.{StaysInPlace};
+
 use crate::{Planned, apply, plan, unapply};
 use json_binary::{decode, encode, used};
 use json_edit::{Edit, Pair, Pairs, Paths};
@@ -17,8 +21,12 @@ fn set_edit(alloc: Global, path: &str, value: &str) -> Result<Edit, Fail> {
 }
 
 fn remove_edit(alloc: Global, path: &str) -> Result<Edit, Fail> {
+    let path = Path::parse(alloc, path)?;
+    if path.legs().is_empty() {
+        return Err(Fail::from("a path below the root"));
+    }
     let mut paths = Vec::new(alloc);
-    paths.push(Path::parse(alloc, path)?)?;
+    paths.push(path)?;
     Ok(Edit::Remove(Paths::new(paths)))
 }
 
@@ -28,6 +36,25 @@ fn stored(alloc: Global, text: &str) -> Result<Vec<u8>, Fail> {
     Ok(out)
 }
 
+// The plan of an edit of bytes that can be decoded.
+fn planned(alloc: Global, bytes: &[u8], edit: &Edit) -> Result<Planned, Fail>
+    ensures { IfOk result (λ plan. (t : Tree) × StaysInPlace bytes.now t (Ok plan)) }
+{
+    decode(alloc, bytes)?;
+    if bytes.len() > 16_777_216 {
+        return Err(Fail::from("16,777,216 bytes at the most"));
+    }
+    Ok(plan(alloc, bytes, edit)?)
+}
+
+fn used_length(alloc: Global, bytes: &[u8]) -> Result<u32, Fail> {
+    decode(alloc, bytes)?;
+    if bytes.len() > 16_777_216 {
+        return Err(Fail::from("16,777,216 bytes at the most"));
+    }
+    Ok(used(bytes))
+}
+
 // Makes an edit in the bytes, and answers how many places differ; 1,000 where the change is full, 0 where it is none.
 fn step(alloc: Global, bytes: &mut Vec<u8>, path: &str, value: &str) -> Result<usize, Fail> {
     let edit = if value == "" {
@@ -35,13 +62,13 @@ fn step(alloc: Global, bytes: &mut Vec<u8>, path: &str, value: &str) -> Result<u
     } else {
         set_edit(alloc, path, value)?
     };
-    match plan(alloc, bytes, &edit)? {
+    match planned(alloc, bytes, &edit)? {
         Planned::Same => Ok(0),
         Planned::Full(_) => Ok(1000),
         Planned::Parts(parts) => {
-            let mut places = 0;
+            let mut places = 0usize;
             for patch in parts.patches() {
-                places += patch.after.as_slice().len();
+                places = places.saturating_add(patch.after.as_slice().len());
             }
             let mut before = Vec::new(alloc);
             before.extend_from_slice(bytes)?;
@@ -72,17 +99,17 @@ fn the_worked_changes(rt: HostRuntime) -> Result<(), Fail> {
         ("$.a[1]", "5", 1000, 42),
     ];
     let mut bytes = stored(alloc, WORKED)?;
-    for (path, value, places, free) in cases {
+    for (path, value, places, length) in cases {
         assert_eq!(rt;
             step(alloc, &mut bytes, path, value)?,
             places,
             "{path} {value}"
         );
-        assert_eq!(rt; used(&bytes), free, "{path} {value}");
+        assert_eq!(rt; used_length(alloc, &bytes)?, length, "{path} {value}");
     }
     let mut bytes = stored(alloc, WORKED)?;
     assert_eq!(rt; step(alloc, &mut bytes, "$.c", "")?, 7);
-    assert_eq!(rt; used(&bytes), 26);
+    assert_eq!(rt; used_length(alloc, &bytes)?, 26);
     Ok(())
 }
 
