@@ -4,4 +4,5 @@ pub mod WriteLemmas
 pub mod PlaceLemmas
 pub mod PlanLemmas
 pub mod TouchLemmas
+pub mod RemovalLemmas
 pub mod SingleLemmas

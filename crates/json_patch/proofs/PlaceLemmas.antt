@@ -127,7 +127,7 @@ nth_or no_trees n = refl
 nth_or (tree t ts) zero = refl
 nth_or (tree t ts) (suc n) = nth_or ts n
 
-found_at : (ts : Trees) (n : ℕ) → n < length (tree_list ts) → slice_get (tree_list ts) n ≡ Some (nth ts n)
+pub found_at : (ts : Trees) (n : ℕ) → n < length (tree_list ts) → slice_get (tree_list ts) n ≡ Some (nth ts n)
 found_at ts n low = slice_get-get_or (tree_list ts) n null low ∙ ap Some (nth_or ts n)
 
 -- a leg that has a number in a list
@@ -137,7 +137,7 @@ Numbered ts l k = (k < length (tree_list ts)) × (position_of (array ts) l ≡ k
 last_numbered : (ts : Trees) (n k : ℕ) → from_end (length (tree_list ts)) n ≡ Some k → k < length (tree_list ts) → Numbered ts (last n) k
 last_numbered ts n k e low = (low, ap (λ o. unwrap_or o 0 ∷ []) e, ap (option_and_then (slice_get (tree_list ts))) e ∙ found_at ts k low)
 
-below_count : (m n k : ℕ) (b : Bool) → nat_lt n m ≡ b → cond b (Some (m - suc n)) None ≡ Some k → k < m
+pub below_count : (m n k : ℕ) (b : Bool) → nat_lt n m ≡ b → cond b (Some (m - suc n)) None ≡ Some k → k < m
 below_count m n k true e h = let low = ltb-true n m e in let same : m - suc n ≡ k = some_is h in omega (arith, low, same)
 below_count m n k false e h = let no : ⊥ = cc in absurd no
 

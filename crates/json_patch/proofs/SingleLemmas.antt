@@ -1,5 +1,5 @@
 -- An edit that puts one value where a path leads, below the root: when it leaves its tree equal, how deep its tree is, and what is stored for it.
-use Rattle.std.proofs.Common.{◌≡◌, ◌≢◌, ℕ, zero, suc, ◌+◌, ◌≤◌, ◌<◌, max, Bool, true, false, true≢false, List, [], ◌∷◌, length, Option, Some, None, option_map, option_and_then, is_some, refl, sym, ap, subst, ◌∙◌, arith}
+use Rattle.std.proofs.Common.{◌≡◌, ℕ, zero, suc, ◌+◌, ◌≤◌, ◌<◌, max, Bool, true, false, true≢false, List, [], ◌∷◌, length, Option, Some, None, option_map, option_and_then, is_some, refl, sym, ap, subst, ◌∙◌, arith}
 use Rattle.tree_model.specs.Tree.{Tree, null, boolean, number, text, array, object, Trees, no_trees, tree, tree_list, Members, no_members, member, depth, trees_depth, members_depth, IsTree, AreTrees, HoldTrees}
 use Rattle.std.proofs.Common.{◌++◌, ◌==◌, if◌then◌else◌, ◌⊎◌, inl, inr}
 use Rattle.std.proofs.lemmas.Grind.{common_steps}
@@ -62,7 +62,7 @@ members_with_nth no_members n low = refl
 members_with_nth (member k t ms) zero low = refl
 members_with_nth (member k t ms) (suc n) low = ap (member k t) (members_with_nth ms n (omega (arith, low)))
 
-kid_with : (t : Tree) (n : ℕ) (u : Tree) → n < length (tree_list (kids t)) → nth (kids (with_kid t n u)) n ≡ u
+pub kid_with : (t : Tree) (n : ℕ) (u : Tree) → n < length (tree_list (kids t)) → nth (kids (with_kid t n u)) n ≡ u
 kid_with null n u low = absurd (omega (arith, low))
 kid_with (boolean b) n u low = absurd (omega (arith, low))
 kid_with (number z) n u low = absurd (omega (arith, low))
@@ -109,7 +109,7 @@ members_deep no_members n u = omega arith
 members_deep (member k t ms) zero u = omega arith
 members_deep (member k t ms) (suc n) u = let rest : members_depth (with_nth_member ms n u) ≤ max (members_depth ms) (depth u) = members_deep ms n u in omega (arith, rest)
 
-kid_deep : (t : Tree) (n : ℕ) (u : Tree) → depth (with_kid t n u) ≤ max (depth t) (suc (depth u))
+pub kid_deep : (t : Tree) (n : ℕ) (u : Tree) → depth (with_kid t n u) ≤ max (depth t) (suc (depth u))
 kid_deep null n u = omega arith
 kid_deep (boolean b) n u = omega arith
 kid_deep (number z) n u = omega arith
@@ -126,7 +126,7 @@ values_deep : (ms : Members) → trees_depth (values ms) ≡ members_depth ms
 values_deep no_members = refl
 values_deep (member k t ms) = ap (max (depth t)) (values_deep ms)
 
-below_deep : (t : Tree) (n : ℕ) → n < length (tree_list (kids t)) → suc (depth (nth (kids t) n)) ≤ depth t
+pub below_deep : (t : Tree) (n : ℕ) → n < length (tree_list (kids t)) → suc (depth (nth (kids t) n)) ≤ depth t
 below_deep null n low = absurd (omega (arith, low))
 below_deep (boolean b) n low = absurd (omega (arith, low))
 below_deep (number z) n low = absurd (omega (arith, low))
@@ -257,10 +257,10 @@ stands_there (l ∷ ls) k bytes t s c n v r acts =
 
 -- ---- the change of one pair
 
-step_same : (edit : List ℕ → Option (List ℕ)) (after : Tree) (p : Progress) → same_tree p.«tree» after ≡ true → step edit after p ≡ p
+pub step_same : (edit : List ℕ → Option (List ℕ)) (after : Tree) (p : Progress) → same_tree p.«tree» after ≡ true → step edit after p ≡ p
 step_same edit after p h = rw h refl
 
-step_other : (edit : List ℕ → Option (List ℕ)) (after : Tree) (p : Progress) → same_tree p.«tree» after ≡ false → step edit after p ≡ record { «tree» = after; edited = option_and_then edit p.edited }
+pub step_other : (edit : List ℕ → Option (List ℕ)) (after : Tree) (p : Progress) → same_tree p.«tree» after ≡ false → step edit after p ≡ record { «tree» = after; edited = option_and_then edit p.edited }
 step_other edit after p h = rw h refl
 
 module _ (bytes : List ℕ) (t u : Tree) (path : Path) (ks : List ℕ) (act : Path → Tree → Tree → Tree)
@@ -283,7 +283,7 @@ module _ (bytes : List ℕ) (t u : Tree) (path : Path) (ks : List ℕ) (act : Pa
 
 -- ---- where the place is known
 
-led_inside : (bytes : List ℕ) (s : layout.Spot) (o : Option (List ℕ)) (c : Container) (k : ℕ) → IsLed bytes s Root o (Some (Inside c k))
+pub led_inside : (bytes : List ℕ) (s : layout.Spot) (o : Option (List ℕ)) (c : Container) (k : ℕ) → IsLed bytes s Root o (Some (Inside c k))
     → (j : ℕ) × (js : List ℕ) × (o ≡ Some (j ∷ js)) × ActsOn bytes s (j ∷ js) (Inside c k)
 led_inside bytes s None c k h = let no : ⊥ = cc in absurd no
 led_inside bytes s (Some []) c k h = let no : ⊥ = cc in absurd no

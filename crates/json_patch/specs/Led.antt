@@ -2,14 +2,17 @@
 --     IsNumber      the number that one leg finds in a container
 --     IsEntered      what one leg enters
 --     IsLed      the place that legs lead to, by the positions that they enter
-use Rattle.std.specs.Prelude.{◌≡◌, ◌<◌, ℕ, true, false, List, [], ◌∷◌, length, map, Option, Some, None}
-use Rattle.tree_model.specs.Tree.{Tree, Members, member_list, get, AreMembers}
-use Rattle.tree_model.specs.Path.{Leg, key, child}
+--     IsTaken      the value that legs take out of its container
+use Rattle.std.specs.Prelude.{◌≡◌, ◌≤◌, ◌<◌, ℕ, true, false, List, [], ◌∷◌, length, map, Option, Some, None}
+use Rattle.tree_model.specs.Tree.{Tree, Members, member_list, get, depth, AreMembers}
+use Rattle.tree_model.specs.Path.{Leg, Path, key, child}
+use Rattle.tree_model.specs.Same.{same_tree}
+use Rattle.tree_model.specs.Edit.{try_remove}
 use Rattle.binary_model.specs.Layout as layout
 use Rattle.binary_model.specs.Layout.{count, key_of}
 use Rattle.binary_model.specs.Stands.{IsValue, AreKeys}
 use Rattle.json_edit.specs.Places.{place_in}
-use Rattle.binary_model.specs.Change.{position_of, at_holder}
+use Rattle.binary_model.specs.Change.{position_of, positions, at_holder}
 use Rattle.json_binary.specs.declared.place.Container.{Container}
 use Rattle.json_binary.specs.Place.{container_of, spot_of, IsInside}
 use Rattle.json_patch.specs.Stand.{HasValues}
@@ -60,3 +63,15 @@ IsLedTo bytes s place (k ∷ ks) (Some found) = ActsOn bytes s (k ∷ ks) found
 abbrev pub IsLed : List ℕ → layout.Spot → Place → Option (List ℕ) → Option Place → Type 0
 IsLed bytes s place None result = result ≡ None
 IsLed bytes s place (Some ks) result = IsLedTo bytes s place ks result
+
+-- the path takes a container's k-th value out of the tree, which is another one then and no deeper
+pub record Taken (bytes : List ℕ) (s : layout.Spot) (t : Tree) (path : Path) (c : Container) (k : ℕ) : Type 0 where
+  pub led : IsLed bytes s Root (positions path t) (Some (Inside c k))
+  pub other : Tree
+  pub out : try_remove path t ≡ Some other
+  pub apart : same_tree t other ≡ false
+  pub shallow : depth other ≤ depth t
+
+abbrev pub IsTaken : List ℕ → layout.Spot → Tree → Path → Option (Container × ℕ) → Type 0
+IsTaken bytes s t path None = try_remove path t ≡ None
+IsTaken bytes s t path (Some found) = Taken bytes s t path found.0 found.1

@@ -1,7 +1,6 @@
 -- What the plan of one pair is, where it is told without the whole document.
 use Rattle.std.specs.Prelude.{◌≡◌, ◌⊎◌, ◌∷◌, [], List, ℕ}
 use Rattle.tree_model.specs.Tree.{Tree, depth}
-use Rattle.tree_model.specs.Path.{Path}
 use Rattle.tree_model.specs.Edit as model
 use Rattle.tree_model.specs.Edit.{edited}
 use Rattle.binary_model.specs.Canonical.{canonical_length}

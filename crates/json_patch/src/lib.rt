@@ -6,6 +6,7 @@ mod error;
 mod parts;
 mod place;
 mod planning;
+mod removal;
 mod room;
 mod single;
 #[cfg(test)]

@@ -6,7 +6,7 @@ ghost use Rattle.binary_model.specs.Stands.{IsValue};
 ghost use Rattle.binary_model.specs.Change.{positions};
 ghost use Rattle.json_path.specs.View.{leg_of};
 ghost use Rattle.json_binary.specs.Place.{container_of, spot_of, IsFramed, IsInside};
-ghost use Rattle.json_patch.specs.Led.{IsLed, IsEntered, IsNumber, EntersInside};
+ghost use Rattle.json_patch.specs.Led.{IsLed, IsTaken, IsEntered, IsNumber, EntersInside};
 
 use json_binary::{Container, Spot, child, container_in, member};
 use json_edit::{is_itself, place_in_list};
@@ -45,6 +45,30 @@ pub fn place_from(bytes: &[u8], spot: Spot, place: Place, legs: &[Leg]) -> Optio
         Entered::Itself => place_from(bytes, spot, place, rest),
         Entered::Value(container, k, inner) => {
             place_from(bytes, inner, Place::Inside(container, k), rest)
+        }
+    }
+}
+
+/// The value that legs take out of its container, from a value: the container, and the number of
+/// the value in it. None where the legs find nothing, where they find the value itself, and where
+/// the last one is a position 0 on what isn't a list.
+pub fn taken_from(bytes: &[u8], spot: Spot, legs: &[Leg]) -> Option<(Container, usize)>
+    requires inside { IsInside bytes.now spot }
+    ensures { (t : Tree) → IsTree t → IsValue bytes.now t (spot_of spot) →
+        IsTaken bytes.now (spot_of spot) t (map leg_of legs.now) result }
+{
+    let [leg, rest @ ..] = legs else {
+        return None;
+    };
+    match enter(bytes, spot, leg) {
+        Entered::Nothing => None,
+        Entered::Itself => taken_from(bytes, spot, rest),
+        Entered::Value(container, k, inner) => {
+            if rest.is_empty() {
+                Some((container, k))
+            } else {
+                taken_from(bytes, inner, rest)
+            }
         }
     }
 }

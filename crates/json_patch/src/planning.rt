@@ -15,6 +15,7 @@ ghost use Rattle.json_patch.specs.Answer.{IsAnswer, StaysInPlace, IsEncoded};
 use crate::PlanError;
 use crate::draft::{Draft, edit_draft};
 use crate::parts::{Parts, runs_between};
+use crate::removal::{only_path, plan_removal};
 use crate::single::{only_pair, plan_single};
 use crate::trees::visit_edit;
 use json_binary::{EncodeError, decode, encode};
@@ -38,7 +39,8 @@ pub enum Planned {
 
 /// What an edit makes of a stored document: nothing where the tree stays equal; else patches where
 /// each pair could be made in place; else a new encoding. An edit of one pair that replaces a value
-/// in place, or leaves it equal, costs its path and that value; any other one costs the document.
+/// in place, or leaves it equal, costs its path and that value; a removal by one path costs that
+/// path and its container's entries; any other edit costs the document.
 pub fn plan(alloc: Global, bytes: &[u8], edit: &Edit) -> Result<Planned, PlanError>
     requires document { IsDocument bytes.now }
     requires small { length bytes.now ≤ 16777216 }
@@ -55,6 +57,10 @@ pub fn plan(alloc: Global, bytes: &[u8], edit: &Edit) -> Result<Planned, PlanErr
         if let Some(planned) = plan_single(alloc, bytes, pair)? {
             return Ok(planned);
         }
+    }
+    if let Some(path) = only_path(edit) {
+        let planned = plan_removal(alloc, bytes, path)?;
+        return Ok(planned);
     }
     plan_whole(alloc, bytes, edit)
 }

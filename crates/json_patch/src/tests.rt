@@ -1,5 +1,10 @@
 //! Changes of stored documents, worked by hand from the rules of the format.
-use crate::{Planned, apply, plan, unapply};
+ghost use Rattle.std.specs.Prelude.{IfOk, Ok};
+ghost use Rattle.tree_model.specs.Tree.{Tree};
+ghost use Rattle.json_edit.specs.Edits.{HasLeg};
+ghost use Rattle.json_patch.specs.Answer.{StaysInPlace};
+
+use crate::{Parts, PlanError, Planned, apply, plan, unapply};
 use json_binary::{decode, encode, used};
 use json_edit::{Edit, Pair, Pairs, Paths};
 use json_path::Path;
@@ -7,19 +12,62 @@ use json_tree::{Json, from_text};
 use std::alloc::Global;
 use std::test::Fail;
 
-fn set_edit(alloc: Global, path: &str, value: &str) -> Result<Edit, Fail> {
-    let mut pairs = Vec::new(alloc);
-    pairs.push(Pair {
-        path: Path::parse(alloc, path)?,
-        value: from_text(alloc, value)?,
-    })?;
-    Ok(Edit::Set(Pairs::new(pairs)))
+#[derive(Clone, Copy)]
+enum Verb {
+    Set,
+    Replace,
+    Remove,
 }
 
-fn remove_edit(alloc: Global, path: &str) -> Result<Edit, Fail> {
-    let mut paths = Vec::new(alloc);
-    paths.push(Path::parse(alloc, path)?)?;
-    Ok(Edit::Remove(Paths::new(paths)))
+fn pairs_of(alloc: Global, pairs: &[(&str, &str)]) -> Result<Pairs, Fail> {
+    let mut items = Vec::new(alloc);
+    for (path, value) in pairs {
+        items.push(Pair {
+            path: Path::parse(alloc, path)?,
+            value: from_text(alloc, value)?,
+        })?;
+    }
+    if items.is_empty() {
+        return Err(Fail::from("no pair"));
+    }
+    if items.len() > 256 {
+        return Err(Fail::from("too many pairs"));
+    }
+    Ok(Pairs::new(items))
+}
+
+// A path that a removal may have: one with a leg.
+fn removed(alloc: Global, path: &str) -> Result<Path, Fail>
+    ensures { IfOk result HasLeg }
+{
+    let path = Path::parse(alloc, path)?;
+    if path.legs().is_empty() {
+        return Err(Fail::from("a path without legs"));
+    }
+    Ok(path)
+}
+
+fn paths_of(alloc: Global, pairs: &[(&str, &str)]) -> Result<Paths, Fail> {
+    let mut items = Vec::new(alloc);
+    for (path, _) in pairs {
+        items.push(removed(alloc, path)?)?;
+    }
+    if items.is_empty() {
+        return Err(Fail::from("no path"));
+    }
+    if items.len() > 256 {
+        return Err(Fail::from("too many paths"));
+    }
+    Ok(Paths::new(items))
+}
+
+// An edit of paths and values; a removal looks at no value.
+fn edit_of(alloc: Global, verb: Verb, pairs: &[(&str, &str)]) -> Result<Edit, Fail> {
+    match verb {
+        Verb::Set => Ok(Edit::Set(pairs_of(alloc, pairs)?)),
+        Verb::Replace => Ok(Edit::Replace(pairs_of(alloc, pairs)?)),
+        Verb::Remove => Ok(Edit::Remove(paths_of(alloc, pairs)?)),
+    }
 }
 
 fn stored(alloc: Global, text: &str) -> Result<Vec<u8>, Fail> {
@@ -28,20 +76,49 @@ fn stored(alloc: Global, text: &str) -> Result<Vec<u8>, Fail> {
     Ok(out)
 }
 
+// The plan of an edit of bytes that can be decoded.
+fn planned(alloc: Global, bytes: &[u8], edit: &Edit) -> Result<Planned, Fail>
+    ensures { IfOk result (λ plan. (t : Tree) × StaysInPlace bytes.now t (Ok plan)) }
+{
+    decode(alloc, bytes)?;
+    if bytes.len() > 16_777_216 {
+        return Err(Fail::from("16,777,216 bytes at the most"));
+    }
+    Ok(plan(alloc, bytes, edit)?)
+}
+
+// Whether the edit of a document would nest too deep. Bytes that can't be decoded are a failure.
+fn is_too_deep(alloc: Global, bytes: &[u8], edit: &Edit) -> Result<bool, Fail> {
+    decode(alloc, bytes)?;
+    if bytes.len() > 16_777_216 {
+        return Err(Fail::from("16,777,216 bytes at the most"));
+    }
+    match plan(alloc, bytes, edit) {
+        Ok(_) => Ok(false),
+        Err(PlanError::Deep) => Ok(true),
+        Err(_) => Err(Fail::from("neither large nor out of memory")),
+    }
+}
+
+fn used_length(alloc: Global, bytes: &[u8]) -> Result<u32, Fail> {
+    decode(alloc, bytes)?;
+    if bytes.len() > 16_777_216 {
+        return Err(Fail::from("16,777,216 bytes at the most"));
+    }
+    Ok(used(bytes))
+}
+
 // Makes an edit in the bytes, and answers how many places differ; 1,000 where the change is full, 0 where it is none.
 fn step(alloc: Global, bytes: &mut Vec<u8>, path: &str, value: &str) -> Result<usize, Fail> {
-    let edit = if value == "" {
-        remove_edit(alloc, path)?
-    } else {
-        set_edit(alloc, path, value)?
-    };
-    match plan(alloc, bytes, &edit)? {
+    let verb = if value == "" { Verb::Remove } else { Verb::Set };
+    let edit = edit_of(alloc, verb, &[(path, value)])?;
+    match planned(alloc, bytes, &edit)? {
         Planned::Same => Ok(0),
         Planned::Full(_) => Ok(1000),
         Planned::Parts(parts) => {
-            let mut places = 0;
+            let mut places = 0usize;
             for patch in parts.patches() {
-                places += patch.after.as_slice().len();
+                places = places.saturating_add(patch.after.as_slice().len());
             }
             let mut before = Vec::new(alloc);
             before.extend_from_slice(bytes)?;
@@ -72,17 +149,17 @@ fn the_worked_changes(rt: HostRuntime) -> Result<(), Fail> {
         ("$.a[1]", "5", 1000, 42),
     ];
     let mut bytes = stored(alloc, WORKED)?;
-    for (path, value, places, free) in cases {
+    for (path, value, places, length) in cases {
         assert_eq!(rt;
             step(alloc, &mut bytes, path, value)?,
             places,
             "{path} {value}"
         );
-        assert_eq!(rt; used(&bytes), free, "{path} {value}");
+        assert_eq!(rt; used_length(alloc, &bytes)?, length, "{path} {value}");
     }
     let mut bytes = stored(alloc, WORKED)?;
     assert_eq!(rt; step(alloc, &mut bytes, "$.c", "")?, 7);
-    assert_eq!(rt; used(&bytes), 26);
+    assert_eq!(rt; used_length(alloc, &bytes)?, 26);
     Ok(())
 }
 
@@ -166,6 +243,206 @@ fn the_room_at_its_edges(rt: HostRuntime) -> Result<(), Fail> {
         for (path, value, places) in steps {
             let found = step(alloc, &mut bytes, path, value)?;
             assert_eq!(rt; found, *places, "{text} {path} {value}");
+        }
+    }
+    Ok(())
+}
+
+/// How an edit is to be stored: the runs by their first places and lengths, where it is made in place.
+#[derive(Clone, Copy)]
+enum Wanted<'a> {
+    Same,
+    Runs(&'a [(u32, usize)]),
+    Full,
+}
+
+/// Document, verb, pairs (a removal's have no values), how it is to be stored, the document behind.
+type Row<'a> = (&'a str, Verb, &'a [(&'a str, &'a str)], Wanted<'a>, &'a str);
+
+fn has_runs(parts: &Parts, runs: &[(u32, usize)]) -> bool {
+    let patches = parts.patches();
+    if patches.len() != runs.len() {
+        return false;
+    }
+    for (patch, (at, length)) in patches.iter().zip(runs) {
+        if patch.at != *at || patch.after.as_slice().len() != *length {
+            return false;
+        }
+    }
+    true
+}
+
+// Whether an edit is stored as is wanted, and leaves the document that is wanted.
+fn is_stored(alloc: Global, row: Row) -> Result<bool, Fail> {
+    let (text, verb, pairs, wanted, behind) = row;
+    let mut bytes = stored(alloc, text)?;
+    let edit = edit_of(alloc, verb, pairs)?;
+    match (planned(alloc, &bytes, &edit)?, wanted) {
+        (Planned::Same, Wanted::Same) => {}
+        (Planned::Full(new), Wanted::Full) => {
+            return Ok(new.as_slice() == stored(alloc, behind)?.as_slice());
+        }
+        (Planned::Parts(parts), Wanted::Runs(runs)) => {
+            if !has_runs(&parts, runs) {
+                return Ok(false);
+            }
+            apply(&mut bytes, &parts);
+        }
+        _ => return Ok(false),
+    }
+    Ok(decode(alloc, &bytes)?.same(&from_text(alloc, behind)?))
+}
+
+#[test]
+fn replace_acts_on_what_is_found(rt: HostRuntime) -> Result<(), Fail> {
+    // The number of `a` stands at 14, and the text of `b` at 21 to 26, the end.
+    let text = r#"{"a":1000,"b":"wxyz"}"#;
+    let cases: [(&str, &str, Wanted, &str); 7] = [
+        (
+            "$.b",
+            "\"ab\"",
+            Wanted::Runs(&[(21, 3)]),
+            r#"{"a":1000,"b":"ab"}"#,
+        ),
+        (
+            "$.b",
+            "\"abcde\"",
+            Wanted::Full,
+            r#"{"a":1000,"b":"abcde"}"#,
+        ),
+        (
+            "$.a[0]",
+            "5",
+            Wanted::Runs(&[(14, 2)]),
+            r#"{"a":5,"b":"wxyz"}"#,
+        ),
+        ("$.a", "1000", Wanted::Same, text),
+        ("$.a[1]", "5", Wanted::Same, text),
+        ("$.x", "5", Wanted::Same, text),
+        ("$", "5", Wanted::Full, "5"),
+    ];
+    for (path, value, wanted, behind) in cases {
+        let pairs = [(path, value)];
+        let row = (text, Verb::Replace, pairs.as_slice(), wanted, behind);
+        assert!(rt; is_stored(rt.alloc(), row)?, "{path} {value}");
+    }
+    Ok(())
+}
+
+#[test]
+fn several_pairs_are_stored_as_one_change(rt: HostRuntime) -> Result<(), Fail> {
+    // The number of `a` stands at 18, and the text of `b` at 29 to 34.
+    let cases: [Row; 5] = [
+        (
+            WORKED,
+            Verb::Set,
+            &[("$.a", "5"), ("$.b", "\"ab\"")],
+            Wanted::Runs(&[(18, 2), (29, 3)]),
+            r#"{"a":5,"b":"ab","c":"[1, 3, 5, 7]"}"#,
+        ),
+        (
+            WORKED,
+            Verb::Set,
+            &[("$.a", "5"), ("$.b", "\"abcde\"")],
+            Wanted::Full,
+            r#"{"a":5,"b":"abcde","c":"[1, 3, 5, 7]"}"#,
+        ),
+        (
+            WORKED,
+            Verb::Set,
+            &[("$.b", "\"a\""), ("$.b", "\"wxyz\"")],
+            Wanted::Same,
+            WORKED,
+        ),
+        (
+            WORKED,
+            Verb::Replace,
+            &[("$.x", "1"), ("$.b", "\"ab\"")],
+            Wanted::Runs(&[(29, 3)]),
+            r#"{"a":1000,"b":"ab","c":"[1, 3, 5, 7]"}"#,
+        ),
+        // The second value takes what the first one leaves of its room.
+        (
+            r#"{"a":1,"b":"xy","c":2,"d":"pqr"}"#,
+            Verb::Set,
+            &[("$.b", "\"z\""), ("$.c", "\"\"")],
+            Wanted::Runs(&[(27, 2), (37, 3)]),
+            r#"{"a":1,"b":"z","c":"","d":"pqr"}"#,
+        ),
+    ];
+    for row in cases {
+        assert!(rt; is_stored(rt.alloc(), row)?, "{} to {}", row.0, row.4);
+    }
+    Ok(())
+}
+
+#[test]
+fn several_removals_are_made_in_place(rt: HostRuntime) -> Result<(), Fail> {
+    let cases: [Row; 3] = [
+        (
+            WORKED,
+            Verb::Remove,
+            &[("$.c", ""), ("$.b", "")],
+            Wanted::Runs(&[(1, 1), (9, 3), (13, 6)]),
+            r#"{"a":1000}"#,
+        ),
+        (
+            WORKED,
+            Verb::Remove,
+            &[("$.x", ""), ("$.c", "")],
+            Wanted::Runs(&[(1, 1), (13, 6)]),
+            r#"{"a":1000,"b":"wxyz"}"#,
+        ),
+        // The second path is of the list that the first one leaves.
+        (
+            "[1,2,3]",
+            Verb::Remove,
+            &[("$[0]", ""), ("$[0]", "")],
+            Wanted::Runs(&[(1, 1), (6, 1), (9, 1)]),
+            "[3]",
+        ),
+    ];
+    for row in cases {
+        assert!(rt; is_stored(rt.alloc(), row)?, "{} to {}", row.0, row.4);
+    }
+    Ok(())
+}
+
+fn repeated(alloc: Global, part: &str, count: usize) -> Result<String, Fail> {
+    let mut text = String::new(alloc);
+    for _ in 0..count {
+        text.push_str(part)?;
+    }
+    Ok(text)
+}
+
+// A value in so many lists.
+fn nested(alloc: Global, lists: usize, inner: &str) -> Result<String, Fail> {
+    let opened = repeated(alloc, "[", lists)?;
+    let closed = repeated(alloc, "]", lists)?;
+    Ok(format!(in alloc; "{}{inner}{}", opened.as_str(), closed.as_str())?)
+}
+
+// Whether so many lists nest too deep where a path leads in a document.
+fn nests_too_deep(alloc: Global, text: &str, path: &str, lists: usize) -> Result<bool, Fail> {
+    let value = nested(alloc, lists, "")?;
+    let edit = edit_of(alloc, Verb::Set, &[(path, value.as_str())])?;
+    is_too_deep(alloc, &stored(alloc, text)?, &edit)
+}
+
+#[test]
+fn a_hundred_containers_are_the_most(rt: HostRuntime) -> Result<(), Fail> {
+    let alloc = rt.alloc();
+    let letters = repeated(alloc, "k", 300)?;
+    let letters = format!(in alloc; "\"{}\"", letters.as_str())?;
+    let legs = repeated(alloc, "[0]", 60)?;
+    let path = format!(in alloc; "${}", legs.as_str())?;
+    // A number has no room for a list. 41 nested lists take 284 bytes, and the letters 302.
+    for inner in ["1", letters.as_str()] {
+        let text = nested(alloc, 60, inner)?;
+        for (lists, is_deep) in [(41, true), (40, false)] {
+            let found = nests_too_deep(alloc, text.as_str(), path.as_str(), lists)?;
+            assert_eq!(rt; found, is_deep, "{lists} lists for {inner}");
         }
     }
     Ok(())

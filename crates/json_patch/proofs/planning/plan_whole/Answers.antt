@@ -1,5 +1,4 @@
-use Rattle.std.proofs.Common.{◌≡◌, ◌∙◌, ℕ, sym, ap, subst, length, Some, IfSome, refl, rules}
-use Rattle.tree_model.specs.Tree.{Tree, depth}
+use Rattle.std.proofs.Common.{◌≡◌, ◌∙◌, sym, ap, subst, length, Some, IfSome, refl, rules}
 use Rattle.tree_model.specs.Edit.{edited}
 use Rattle.binary_model.specs.Stands.{IsBytes}
 use Rattle.binary_model.specs.Canonical.{canonical_length}

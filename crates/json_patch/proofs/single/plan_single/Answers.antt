@@ -1,19 +1,17 @@
-use Rattle.std.proofs.Common.{◌≡◌, ◌+◌, ◌≤◌, Some, None, IfOk, length, map, option_map, sym, ap, subst, ◌∙◌, arith, inl, inr, ◌⊎◌}
+use Rattle.std.proofs.Common.{◌≡◌, ◌+◌, ◌≤◌, Some, length, map, option_map, sym, ap, subst, ◌∙◌, arith}
 use Rattle.std.proofs.lemmas.Grind.{common_steps}
-use Rattle.tree_model.specs.Tree.{Tree, depth}
+use Rattle.tree_model.specs.Tree.{depth}
 use Rattle.tree_model.specs.Same.{same_tree}
-use Rattle.binary_model.specs.Stands.{Stands, IsValue}
+use Rattle.binary_model.specs.Stands.{IsValue}
 use Rattle.binary_model.specs.Canonical.{spelling}
 use Rattle.binary_model.specs.Change.{positions, with_value, runs}
-use Rattle.binary_model.specs.Layout as layout
 use Rattle.json_path.specs.View.{leg_of}
 use Rattle.json_tree.specs.View.{tree_of}
 use Rattle.json_binary.specs.Place.{container_of, spot_of}
 use Rattle.json_patch.specs.Led.{IsLed}
 use Rattle.json_patch.specs.Writes.{IsMade, put_writes}
-use Rattle.json_patch.specs.View.{runs_of}
 use Rattle.json_patch.specs.declared.place.Place.TheVariants.{Root, Inside}
-use Rattle.json_patch.proofs.SingleLemmas.{Place, place_found, same_plan, parts_plan}
+use Rattle.json_patch.proofs.SingleLemmas.{place_found, same_plan, parts_plan}
 use Rattle.json_patch.proofs.single.plan_single.Goals as goal
 
 pub returns-then-same-clause-plan : goal.returns-then-same-clause-plan
