@@ -7,13 +7,16 @@ PROGRAM is the built `lobstore` (by default the one that `rt run` leaves in crat
 
 - reading: a script of 100,000 statements against one of 10,000 of the same form, whose last line is bad, so that nothing runs.
   Linear in the bytes is a ratio of 10.
-- sets: N sets of one number (by default 100) in a document of 10 MB against as many in one of 10 KB of the same shape, each less the
+- sets: N sets of one number (by default 10,000) in a document of 10 MB against as many in one of 10 KB of the same shape, each less the
   time of its insert alone.
+- SQLite: M sets (by default 20) of that number in the same 10 MB by `json_set` in one UPDATE each, in memory, by its command line, less
+  the time of the insert alone; for each of them, against ours. Left out where there is no `sqlite3`.
 
 Each runs several rounds (by default 3), in turns; the best counts.
 """
 import argparse
 import os
+import shutil
 import subprocess
 import sys
 import tempfile
@@ -41,29 +44,37 @@ def with_sets(size, count):
     return insert_only(size) + "".join('s1 set 1 ["$.n",%d]\n' % (n + 1) for n in range(count))
 
 
+def sqlite_script(size, count):
+    """A table with the document, and so many updates of its number."""
+    yield "CREATE TABLE docs(id INTEGER PRIMARY KEY, doc TEXT);\n"
+    yield "INSERT INTO docs VALUES(1, '%s');\n" % document(size)
+    for n in range(count):
+        yield "UPDATE docs SET doc = json_set(doc, '$.n', %d) WHERE id = 1;\n" % (n + 1)
+
+
 def statements(count):
     return "".join('s1 set %d ["$.a[2]",%d,"$.b",{"c":[1,2]}]\n' % (n + 1, n) for n in range(count)) + "bad\n"
 
 
-def seconds(program, script, status):
+def seconds(command, script, status):
     with tempfile.NamedTemporaryFile("w") as file:
         file.write(script)
         file.flush()
         with open(file.name) as source:
             begin = time.perf_counter()
-            run = subprocess.run([program, "store.lob", "run"], stdin=source, stdout=subprocess.DEVNULL, stderr=subprocess.DEVNULL)
+            run = subprocess.run(command, stdin=source, stdout=subprocess.DEVNULL, stderr=subprocess.DEVNULL)
             end = time.perf_counter()
     if run.returncode != status:
         sys.exit("status %d where %d was due" % (run.returncode, status))
     return end - begin
 
 
-def best(program, scripts, rounds, status):
+def best(command, scripts, rounds, status):
     """The best time of each script, run in turns."""
     times = [[] for _ in scripts]
     for _ in range(rounds):
         for index, script in enumerate(scripts):
-            times[index].append(seconds(program, script, status))
+            times[index].append(seconds(command, script, status))
     return [min(each) for each in times]
 
 
@@ -71,17 +82,26 @@ def main():
     parser = argparse.ArgumentParser(description=__doc__, formatter_class=argparse.RawDescriptionHelpFormatter)
     parser.add_argument("program", nargs="?", default=PROGRAM)
     parser.add_argument("--rounds", type=int, default=3)
-    parser.add_argument("--sets", type=int, default=100)
+    parser.add_argument("--sets", type=int, default=10_000)
+    parser.add_argument("--sqlite-sets", type=int, default=20)
     args = parser.parse_args()
 
-    few, many = best(args.program, [statements(10_000), statements(100_000)], args.rounds, 2)
+    ours = [args.program, "store.lob", "run"]
+    few, many = best(ours, [statements(10_000), statements(100_000)], args.rounds, 2)
     print("reading: 10,000 statements %.3f s, 100,000 statements %.3f s, ratio %.1f" % (few, many, many / few))
 
     large, small = 10_000_000, 10_000
     scripts = [insert_only(small), with_sets(small, args.sets), insert_only(large), with_sets(large, args.sets)]
-    base, sets, large_base, large_sets = best(args.program, scripts, args.rounds, 0)
+    base, sets, large_base, large_sets = best(ours, scripts, args.rounds, 0)
     print("%d sets: 10 KB %.4f s, 10 MB %.4f s, ratio %.1f"
           % (args.sets, sets - base, large_sets - large_base, (large_sets - large_base) / max(sets - base, 1e-6)))
+
+    if shutil.which("sqlite3"):
+        count = args.sqlite_sets
+        scripts = ["".join(sqlite_script(large, 0)), "".join(sqlite_script(large, count))]
+        alone, updated = best(["sqlite3", ":memory:"], scripts, args.rounds, 0)
+        each, our_each = (updated - alone) / count, (large_sets - large_base) / args.sets
+        print("a set in 10 MB: SQLite %.1f ms, ours %.4f ms, ratio %.0f" % (each * 1e3, our_each * 1e3, each / max(our_each, 1e-9)))
 
 
 if __name__ == "__main__":

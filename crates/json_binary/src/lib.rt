@@ -15,12 +15,16 @@ mod usage;
 mod writer;
 
 pub use cursor::{child, container_in, member, root};
-pub use decoder::decode;
+pub use decoder::{decode, decode_value};
 pub use encoder::encode;
 pub use error::{DecodeError, EncodeError};
 pub use layout::{Form, Kind, Width};
+pub use numbers::push_word;
 pub use place::{Container, Spot};
+pub use scalars::text_range;
+pub use sizes::{Extent, Measured, measure};
 pub use usage::used;
+pub use writer::push_entry;
 
 #[cfg(test)]
 mod tests;

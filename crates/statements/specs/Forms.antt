@@ -29,12 +29,14 @@ form_view form.Insert = script.insert
 form_view (form.Change w) = script.change (word_view w)
 form_view form.Delete = script.delete
 form_view form.Get = script.get_one
+form_view form.Size = script.size_one
 
 abbrev pub statement_of : Statement → journal.Statement
 statement_of (statement.Insert d t) = journal.call (Insert d.0 (tree_of t))
 statement_of (statement.Change d e) = journal.call (Change d.0 (edit_of e))
 statement_of (statement.Delete d) = journal.call (Delete d.0)
 statement_of (statement.Get d) = journal.get d.0
+statement_of (statement.Size d) = journal.size d.0
 
 -- each line is driven by the one session
 abbrev pub line_of : Statement → journal.Line

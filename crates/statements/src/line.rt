@@ -57,6 +57,12 @@ fn get(rest: &str) -> Result<Statement, LineError>
     Ok(Statement::Get(document(rest)?))
 }
 
+fn size(rest: &str) -> Result<Statement, LineError>
+    ensures { Gives statement_of result (statement_read (form_view Form.Size) rest.now) }
+{
+    Ok(Statement::Size(document(rest)?))
+}
+
 // The statement of a form, by what stands behind its word.
 fn statement(alloc: Global, form: Form, rest: &str) -> Result<Statement, LineError>
     ensures { Gives statement_of result (statement_read (form_view form) rest.now) }
@@ -66,6 +72,7 @@ fn statement(alloc: Global, form: Form, rest: &str) -> Result<Statement, LineErr
         Form::Change(word) => change(alloc, word, rest),
         Form::Delete => delete(rest),
         Form::Get => get(rest),
+        Form::Size => size(rest),
     }
 }
 

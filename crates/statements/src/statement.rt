@@ -16,6 +16,8 @@ pub enum Statement {
     Delete(DocId),
     /// Shows a document.
     Get(DocId),
+    /// Tells how long a document is stored.
+    Size(DocId),
 }
 
 /// The statements of the one session, in the order of their lines.

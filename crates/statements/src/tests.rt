@@ -15,13 +15,15 @@ fn first_bad(rt: &HostRuntime, mode: Mode, bytes: &[u8]) -> Result<(u64, Cause),
 
 #[test]
 fn causes_of_lines(rt: HostRuntime) -> Result<(), Fail> {
-    let cases: [(&[u8], u64, Cause); 24] = [
+    let cases: [(&[u8], u64, Cause); 26] = [
         (b"s1 get 1\n\xff\n", 2, Cause::Utf8),
         (b"s2 gets 0 \xc3\n", 1, Cause::Utf8),
         (b"\n#\xff\ns1 gets 1\n", 3, Cause::Word),
         (b"s1& get 1", 1, Cause::Word),
         (b".purge", 1, Cause::Word),
-        (b"s1 size 1", 1, Cause::Word),
+        (b"s1 size 1 2", 1, Cause::Word),
+        (b"s1 begin", 1, Cause::Word),
+        (b"s1 size 0", 1, Cause::Document),
         (b"s1 get 1 ", 1, Cause::Word),
         (b"s1 delete 1 2", 1, Cause::Word),
         (b"s1  get 1", 1, Cause::Word),
@@ -261,7 +263,13 @@ fn entries_as_lines(rt: HostRuntime) -> Result<(), Fail> {
 #[test]
 fn replies_as_texts(rt: HostRuntime) -> Result<(), Fail> {
     let text = Vec::from_slice(rt.alloc(), b"[1, 2]")?;
-    let cases: [(Reply, &[u8]); 9] = [
+    let cases: [(Reply, &[u8]); 12] = [
+        (Reply::Large, b"7 s1 did 3 err large\n"),
+        (Reply::Part(1000), b"7 s1 did 3 ok part 1000\n"),
+        (
+            Reply::Sized { size: 47, free: 3 },
+            b"7 s1 did 3 size 47 free 3\n",
+        ),
         (Reply::Missing, b"7 s1 did 3 err missing\n"),
         (Reply::Same, b"7 s1 did 3 same\n"),
         (Reply::Done, b"7 s1 did 3 ok\n"),

@@ -19,6 +19,7 @@ pub enum Form {
     Change(EditWord),
     Delete,
     Get,
+    Size,
 }
 
 impl Form {
@@ -28,7 +29,7 @@ impl Form {
     {
         match self {
             Form::Insert | Form::Change(_) => false,
-            Form::Delete | Form::Get => true,
+            Form::Delete | Form::Get | Form::Size => true,
         }
     }
 }
@@ -102,6 +103,7 @@ pub fn form_of(word: &str) -> Option<Form>
         "remove" => Some(Form::Change(EditWord::Remove)),
         "delete" => Some(Form::Delete),
         "get" => Some(Form::Get),
+        "size" => Some(Form::Size),
         _ => None,
     }
 }

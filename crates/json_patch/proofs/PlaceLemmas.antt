@@ -1,0 +1,301 @@
+-- What a leg enters in place, and where legs lead.
+use Rattle.std.proofs.Common.{◌≡◌, ◌≤◌, ◌<◌, ℕ, zero, suc, ◌+◌, ◌-◌, ℤ, ◌==◌, ◌&&◌, Bool, true, false, List, [], ◌∷◌, ◌++◌, length, map, get_or, slice_get, bytes_eq, Option, Some, None, unwrap_or, option_map, option_and_then, Less, Equal, refl, sym, ap, subst, ◌∙◌, arith, cond, nat_lt, IsSomeAnd, ◌⊎◌, inl, inr}
+use Rattle.std.proofs.lemmas.Bool.{ltb-true, ltb-false}
+use Rattle.std.proofs.lemmas.Option.{slice_get_past, slice_get-get_or}
+use Rattle.std.proofs.lemmas.Slice.Eq.{bytes_eq-Decides}
+use Rattle.tree_model.specs.Tree.{Tree, null, boolean, number, text, array, object, Trees, no_trees, tree, tree_list, Members, no_members, member, member_list, get, key_cmp, AreMembers, IsTree}
+use Rattle.tree_model.specs.Path.{Leg, key, cell, last, Path, from_end, itself_at, child as tree_child}
+use Rattle.tree_model.proofs.KeyLemmas.{itself, other_bytes, same_bytes}
+use Rattle.tree_model.proofs.KeyOrder.{Above, Rising, rising_from}
+use Rattle.binary_model.specs.Layout as layout
+use Rattle.binary_model.specs.Layout.{Kind, signed, unsigned, kind_at, container_as, container_at, count, end, entries_end, key_of, key_end, keys_end, values_floor, child}
+use Rattle.binary_model.specs.Stands.{IsNumberAs, AreKeys, IsValue, AreElements}
+use Rattle.binary_model.specs.Change.{member_position, position_of, positions, at_holder}
+use Rattle.binary_model.proofs.AgreeLemmas.{some_is}
+use Rattle.binary_model.proofs.StandLemmas.{values, values_stand, values_length, keys_length}
+use Rattle.binary_model.proofs.AgainLemmas.{HasElements, HasMembers, keys_low}
+use Rattle.binary_model.proofs.RefitLemmas.{nth}
+use Rattle.binary_model.proofs.PositionLemmas.{leg_step, step_is}
+use Rattle.json_edit.specs.Places as places
+use Rattle.json_edit.specs.Places.{place_in}
+use Rattle.json_binary.specs.declared.place.Spot.{Spot}
+use Rattle.json_binary.specs.declared.place.Container.{Container}
+use Rattle.json_binary.specs.Place.{container_of, spot_of, IsFramed, IsInside}
+use Rattle.json_patch.specs.declared.place.Place.{Place}
+use Rattle.json_patch.specs.declared.place.Place.TheVariants.{Root, Inside}
+use Rattle.json_patch.specs.declared.place.Entered.TheVariants.{Nothing, Itself, Value}
+use Rattle.json_patch.specs.Stand.{Values}
+use Rattle.json_patch.specs.Led.{IsIn, IsEntered, IsNumber, IsMember, IsLedTo, IsLed}
+use Rattle.json_patch.proofs.RoomLemmas.{kid_stands}
+
+-- ---- the container that a value is
+
+some_at : (P : layout.Container → Type 0) (o : Option layout.Container) (d : layout.Container) → o ≡ Some d → IsSomeAnd o P → P d
+some_at P None d e p = absurd p
+some_at P (Some x) d e p = subst P (some_is e) p
+
+none_at : (P : layout.Container → Type 0) (o : Option layout.Container) → o ≡ None → IsSomeAnd o P → ⊥
+none_at P None e p = absurd p
+none_at P (Some x) e p = let no : ⊥ = cc in no
+
+number_none : (bytes : List ℕ) (z : ℤ) (s : layout.Spot) (kind : Kind) → IsNumberAs kind bytes z s → container_as kind s.at ≡ None
+number_none bytes z s (signed width) h = refl
+number_none bytes z s (unsigned width) h = refl
+number_none bytes z s kind h = absurd h
+
+-- a list or an object
+abbrev Holder : List ℕ → layout.Spot → layout.Container → Tree → Type 0
+Holder bytes s d t = ((ts : Trees) × (t ≡ array ts) × HasElements bytes s.window ts d) ⊎ ((ms : Members) × (t ≡ object ms) × HasMembers bytes s.window ms d)
+
+no_container : {X : Type 0} (o : Option layout.Container) (d : layout.Container) → o ≡ None → o ≡ Some d → X
+no_container o d n e = let no : ⊥ = cc in absurd no
+
+holder : (bytes : List ℕ) (t : Tree) (s : layout.Spot) (d : layout.Container) → IsValue bytes t s → container_at bytes s ≡ Some d → Holder bytes s d t
+holder bytes null s d v e = no_container (container_at bytes s) d (ap (λ k. container_as k s.at) v.0) e
+holder bytes (boolean b) s d v e = no_container (container_at bytes s) d (ap (λ k. container_as k s.at) v.0) e
+holder bytes (number z) s d v e = no_container (container_at bytes s) d (number_none bytes z s (kind_at bytes s.tag) v) e
+holder bytes (text x) s d v e = no_container (container_at bytes s) d (ap (λ k. container_as k s.at) v.0) e
+holder bytes (array ts) s d v e = inl (ts, refl, some_at (HasElements bytes s.window ts) (container_at bytes s) d e v)
+holder bytes (object ms) s d v e = inr (ms, refl, some_at (HasMembers bytes s.window ms) (container_at bytes s) d e v)
+
+elements_values : (bytes : List ℕ) (window : ℕ) (ts : Trees) (d : layout.Container) → HasElements bytes window ts d → Values bytes d ts
+elements_values bytes window ts d h =
+    let floor : values_floor bytes d ≡ entries_end bytes d = ap (λ b. cond b (keys_end bytes d (count bytes d)) (entries_end bytes d)) h.0 in
+    let whole = h.1.2 in
+    record { number = h.2; elements = subst (λ n. AreElements bytes d 0 n ts) (sym floor) h.3; floor = (omega (arith, floor), omega (arith, floor, whole)) }
+
+members_values : (bytes : List ℕ) (window : ℕ) (ms : Members) (d : layout.Container) → HasMembers bytes window ms d → Values bytes d (values ms)
+members_values bytes window ms d h =
+    let ks = map (λ m. m.0) (member_list ms) in
+    let many = h.2 in
+    let low = keys_low ks bytes d 0 h.3 h.1.2 in
+    let at_end : keys_end bytes d (0 + length ks) ≡ values_floor bytes d = ap (keys_end bytes d) (let z : 0 + length ks ≡ length ks = omega arith in z ∙ keys_length ms ∙ sym many)
+    ∙ sym (ap (λ b. cond b (keys_end bytes d (count bytes d)) (entries_end bytes d)) h.0) in
+    record {
+      number = many ∙ values_length ms;
+      elements = values_stand bytes d 0 (values_floor bytes d) ms h.4;
+      floor = subst (λ n. (entries_end bytes d ≤ n) × (n ≤ end bytes d)) at_end low;
+    }
+
+-- ---- a scalar
+
+itself_found : (n : ℕ) (t : Tree) → (n == 0) ≡ true → itself_at n t ≡ Some t
+itself_found n t e = ap (λ b. cond b (Some t) None) e
+
+itself_none : (n : ℕ) (t : Tree) → (n == 0) ≡ false → itself_at n t ≡ None
+itself_none n t e = ap (λ b. cond b (Some t) None) e
+
+-- what legs do at a value that is no list, and no object with the leg's key
+record Stays (t : Tree) : Type 0 where
+  pub cells : (n : ℕ) → (tree_child t (cell n) ≡ itself_at n t) × (position_of t (cell n) ≡ [])
+  pub lasts : (n : ℕ) → (tree_child t (last n) ≡ itself_at n t) × (position_of t (last n) ≡ [])
+
+abbrev StaysFor : Tree → Type 0
+StaysFor t = Stays t × ((k : List ℕ) → tree_child t (key k) ≡ None)
+
+scalar_stays : (bytes : List ℕ) (t : Tree) (s : layout.Spot) → IsValue bytes t s → container_at bytes s ≡ None → StaysFor t
+scalar_stays bytes null s v e = (record { cells = λ n. (refl, refl); lasts = λ n. (refl, refl) }, λ k. refl)
+scalar_stays bytes (boolean b) s v e = (record { cells = λ n. (refl, refl); lasts = λ n. (refl, refl) }, λ k. refl)
+scalar_stays bytes (number z) s v e = (record { cells = λ n. (refl, refl); lasts = λ n. (refl, refl) }, λ k. refl)
+scalar_stays bytes (text x) s v e = (record { cells = λ n. (refl, refl); lasts = λ n. (refl, refl) }, λ k. refl)
+scalar_stays bytes (array ts) s v e = absurd (none_at (HasElements bytes s.window ts) (container_at bytes s) e v)
+scalar_stays bytes (object ms) s v e = absurd (none_at (HasMembers bytes s.window ms) (container_at bytes s) e v)
+
+object_stays : (ms : Members) → Stays (object ms)
+object_stays ms = record { cells = λ n. (refl, refl); lasts = λ n. (refl, refl) }
+
+stays_itself : (t : Tree) (l : Leg) → Stays t → places.is_itself l ≡ true → (tree_child t l ≡ Some t) × (position_of t l ≡ [])
+stays_itself t (key k) h e = let no : ⊥ = cc in absurd no
+stays_itself t (cell n) h e = let c = h.cells n in (c.0 ∙ itself_found n t e, c.1)
+stays_itself t (last n) h e = let c = h.lasts n in (c.0 ∙ itself_found n t e, c.1)
+
+stays_nothing : (t : Tree) (l : Leg) → Stays t → ((k : List ℕ) → l ≡ key k → tree_child t l ≡ None) → places.is_itself l ≡ false → tree_child t l ≡ None
+stays_nothing t (key k) h none e = none k refl
+stays_nothing t (cell n) h none e = (h.cells n).0 ∙ itself_none n t e
+stays_nothing t (last n) h none e = (h.lasts n).0 ∙ itself_none n t e
+
+pub scalar_itself : (bytes : List ℕ) (t : Tree) (s : layout.Spot) (l : Leg) → IsValue bytes t s → container_at bytes s ≡ None → places.is_itself l ≡ true → IsEntered bytes s t l Itself
+scalar_itself bytes t s l v e h = stays_itself t l (scalar_stays bytes t s v e).0 h
+
+pub scalar_nothing : (bytes : List ℕ) (t : Tree) (s : layout.Spot) (l : Leg) → IsValue bytes t s → container_at bytes s ≡ None → places.is_itself l ≡ false → IsEntered bytes s t l Nothing
+scalar_nothing bytes t s l v e h = let stay = scalar_stays bytes t s v e in stays_nothing t l stay.0 (λ k f. ap (tree_child t) f ∙ stay.1 k) h
+
+-- ---- in a list
+
+nth_or : (ts : Trees) (n : ℕ) → get_or (tree_list ts) n null ≡ nth ts n
+nth_or no_trees n = refl
+nth_or (tree t ts) zero = refl
+nth_or (tree t ts) (suc n) = nth_or ts n
+
+pub found_at : (ts : Trees) (n : ℕ) → n < length (tree_list ts) → slice_get (tree_list ts) n ≡ Some (nth ts n)
+found_at ts n low = slice_get-get_or (tree_list ts) n null low ∙ ap Some (nth_or ts n)
+
+-- a leg that has a number in a list
+abbrev Numbered : Trees → Leg → ℕ → Type 0
+Numbered ts l k = (k < length (tree_list ts)) × (position_of (array ts) l ≡ k ∷ []) × (tree_child (array ts) l ≡ Some (nth ts k))
+
+last_numbered : (ts : Trees) (n k : ℕ) → from_end (length (tree_list ts)) n ≡ Some k → k < length (tree_list ts) → Numbered ts (last n) k
+last_numbered ts n k e low = (low, ap (λ o. unwrap_or o 0 ∷ []) e, ap (option_and_then (slice_get (tree_list ts))) e ∙ found_at ts k low)
+
+pub below_count : (m n k : ℕ) (b : Bool) → nat_lt n m ≡ b → cond b (Some (m - suc n)) None ≡ Some k → k < m
+below_count m n k true e h = let low = ltb-true n m e in let same : m - suc n ≡ k = some_is h in omega (arith, low, same)
+below_count m n k false e h = let no : ⊥ = cc in absurd no
+
+cell_numbered : (ts : Trees) (m n k : ℕ) → m ≡ length (tree_list ts) → (b : Bool) → nat_lt n m ≡ b → cond b (Some n) None ≡ Some k → Numbered ts (cell n) k
+cell_numbered ts m n k e true t h =
+    let low = ltb-true n m t in
+    let same : n ≡ k = some_is h in
+    (omega (arith, low, same, e), ap (λ i. i ∷ []) same, found_at ts n (omega (arith, low, e)) ∙ ap (λ i. Some (nth ts i)) same)
+cell_numbered ts m n k e false t h = let no : ⊥ = cc in absurd no
+
+numbered : (ts : Trees) (m : ℕ) (l : Leg) (k : ℕ) → m ≡ length (tree_list ts) → place_in m l ≡ Some k → Numbered ts l k
+numbered ts m (key x) k e h = let no : ⊥ = cc in absurd no
+numbered ts m (cell n) k e h = cell_numbered ts m n k e (nat_lt n m) refl h
+numbered ts m (last n) k e h =
+    let same : from_end (length (tree_list ts)) n ≡ Some k = ap (λ i. from_end i n) (sym e) ∙ h in
+    last_numbered ts n k same (below_count (length (tree_list ts)) n k (nat_lt n (length (tree_list ts))) refl same)
+
+cell_missing : (ts : Trees) (m n : ℕ) → m ≡ length (tree_list ts) → (b : Bool) → nat_lt n m ≡ b → cond b (Some n) None ≡ None → slice_get (tree_list ts) n ≡ None
+cell_missing ts m n e true t h = let no : ⊥ = cc in absurd no
+cell_missing ts m n e false t h = let high = ltb-false n m t in slice_get_past (tree_list ts) n (omega (arith, high, e))
+
+missing : (ts : Trees) (m : ℕ) (l : Leg) → m ≡ length (tree_list ts) → place_in m l ≡ None → tree_child (array ts) l ≡ None
+missing ts m (key x) e h = refl
+missing ts m (cell n) e h = cell_missing ts m n e (nat_lt n m) refl h
+missing ts m (last n) e h = ap (option_and_then (slice_get (tree_list ts))) (ap (λ i. from_end i n) (sym e) ∙ h)
+
+-- ---- in an object
+
+above_found : (l k : List ℕ) (ms : Members) (v : Tree) → Above l ms → get k ms ≡ Some v → key_cmp l k ≡ Less
+above_found l k no_members v up e = let no : ⊥ = cc in absurd no
+above_found l k (member m t ms) v up e = go (bytes_eq k m) refl e (above_found l k ms v up.1)
+  where
+    go : (b : Bool) → bytes_eq k m ≡ b → cond b (Some t) (get k ms) ≡ Some v → (get k ms ≡ Some v → key_cmp l k ≡ Less) → key_cmp l k ≡ Less
+    go true same h later = ap (key_cmp l) ((bytes_eq-Decides k m).0 same) ∙ up.0
+    go false same h later = later h
+
+abbrev MemberIs : List ℕ → Members → ℕ → Type 0
+MemberIs k ms n = (member_position k ms ≡ n) × (get k ms ≡ Some (nth (values ms) n))
+
+member_is : (bytes : List ℕ) (d : layout.Container) (k : List ℕ) (ms : Members) (j floor n : ℕ) → AreKeys bytes d j floor (map (λ m. m.0) (member_list ms)) → Rising ms → n < length (member_list ms) → key_of bytes d (j + n) ≡ k → MemberIs k ms n
+member_is bytes d k no_members j floor n a up low e = let no : ⊥ = omega (arith, low) in absurd no
+member_is bytes d k (member l t ms) j floor zero a up low e =
+    let z : j ≡ j + 0 = omega arith in
+    let same : bytes_eq k l ≡ true = ap (λ x. bytes_eq x l) (sym (ap (key_of bytes d) z ∙ e) ∙ a.2) ∙ same_bytes l in
+    (ap (λ b. cond b 0 (suc (member_position k ms))) same, ap (λ b. cond b (Some t) (get k ms)) same)
+member_is bytes d k (member l t ms) j floor (suc n) a up low e =
+    let z : suc j + n ≡ j + suc n = omega arith in
+    let rest = member_is bytes d k ms (suc j) (key_end bytes d j) n a.3 up.1 (omega (arith, low)) (ap (key_of bytes d) z ∙ e) in
+    let less = above_found l k ms (nth (values ms) n) up.0 rest.1 in
+    let apart : bytes_eq k l ≡ false = other_bytes k l (λ same. let twice : Equal ≡ Less = sym (itself l) ∙ ap (key_cmp l) (sym same) ∙ less in let no : ⊥ = cc in no) in
+    (ap (λ b. cond b 0 (suc (member_position k ms))) apart ∙ ap suc rest.0, ap (λ b. cond b (Some t) (get k ms)) apart ∙ rest.1)
+
+-- ---- what a leg enters in a container
+
+in_list : (bytes : List ℕ) (s : layout.Spot) (c : Container) (ts : Trees) (l : Leg) (k : ℕ) (u : Spot) → container_at bytes s ≡ Some (container_of c) → IsFramed bytes c → HasElements bytes s.window ts (container_of c)
+    → place_in (count bytes (container_of c)) l ≡ Some k → spot_of u ≡ child bytes (container_of c) k → IsInside bytes u → IsEntered bytes s (array ts) l (Value c k u)
+in_list bytes s c ts l k u is framed h at place inside =
+    let vs = elements_values bytes s.window ts (container_of c) h in
+    let many = h.2 in
+    let n = numbered ts (count bytes (container_of c)) l k many at in
+    let low = n.0 in
+    let here : k < count bytes (container_of c) = omega (arith, low, many) in
+    (n.1, record { is = is; stands = (framed, (ts, vs)); low = here }, place, inside, (nth ts k, n.2, subst (IsValue bytes (nth ts k)) (sym place) (kid_stands bytes (container_of c) ts k vs here)))
+
+in_object : (bytes : List ℕ) (s : layout.Spot) (c : Container) (ms : Members) (l : Leg) (k : ℕ) (u : Spot) → container_at bytes s ≡ Some (container_of c) → IsFramed bytes c → HasMembers bytes s.window ms (container_of c)
+    → AreMembers (member_list ms) → IsMember bytes (container_of c) l (Some k) → spot_of u ≡ child bytes (container_of c) k → IsInside bytes u → IsEntered bytes s (object ms) l (Value c k u)
+in_object bytes s c ms (key x) k u is framed h are m place inside =
+    let vs = members_values bytes s.window ms (container_of c) h in
+    let many = h.2 in
+    let low = m.0 in
+    let z : k ≡ 0 + k = omega arith in
+    let found = member_is bytes (container_of c) x ms 0 (entries_end bytes (container_of c)) k h.3 (rising_from ms are) (omega (arith, low, many)) (ap (key_of bytes (container_of c)) (sym z) ∙ m.1) in (
+      ap (λ i. i ∷ []) found.0,
+      record { is = is; stands = (framed, (values ms, vs)); low = low },
+      place,
+      inside,
+      (nth (values ms) k, found.1, subst (IsValue bytes (nth (values ms) k)) (sym place) (kid_stands bytes (container_of c) (values ms) k vs low)),
+    )
+in_object bytes s c ms (cell n) k u is framed h are m place inside = let no : ⊥ = cc in absurd no
+in_object bytes s c ms (last n) k u is framed h are m place inside = let no : ⊥ = cc in absurd no
+
+keyed_clash : {X : Type 0} (b : Bool) → b ≡ true → b ≡ false → X
+keyed_clash b e f = let no : ⊥ = cc in absurd no
+
+pub entered_value : (bytes : List ℕ) (t : Tree) (s : layout.Spot) (c : Container) (l : Leg) (k : ℕ) (u : Spot) → IsTree t → IsValue bytes t s → container_at bytes s ≡ Some (container_of c) → IsFramed bytes c
+    → IsNumber bytes (container_of c) l (Some k) → spot_of u ≡ child bytes (container_of c) k → IsInside bytes u → IsEntered bytes s t l (Value c k u)
+entered_value bytes t s c l k u tree_is v is framed n place inside = go t (holder bytes t s (container_of c) v is) tree_is
+  where
+    go : (t : Tree) → Holder bytes s (container_of c) t → IsTree t → IsEntered bytes s t l (Value c k u)
+    go t (inl (ts, e, h)) tree_is = subst (λ t. IsEntered bytes s t l (Value c k u)) (sym e) (in_list bytes s c ts l k u is framed h (n.0 h.0) place inside)
+    go t (inr (ms, e, h)) tree_is = subst (λ t. IsEntered bytes s t l (Value c k u)) (sym e) (in_object bytes s c ms l k u is framed h (subst IsTree e tree_is).0 (n.1 h.0) place inside)
+
+object_key : (bytes : List ℕ) (s : layout.Spot) (d : layout.Container) (ms : Members) (l : Leg) → HasMembers bytes s.window ms d → AreMembers (member_list ms) → IsMember bytes d l None → (k : List ℕ) → l ≡ key k → tree_child (object ms) l ≡ None
+object_key bytes s d ms (key x) h are m k e = m ms (entries_end bytes d) are h.3 (keys_length ms ∙ sym h.2)
+object_key bytes s d ms (cell n) h are m k e = let no : ⊥ = cc in absurd no
+object_key bytes s d ms (last n) h are m k e = let no : ⊥ = cc in absurd no
+
+pub entered_nothing : (bytes : List ℕ) (t : Tree) (s : layout.Spot) (c : Container) (l : Leg) → IsTree t → IsValue bytes t s → container_at bytes s ≡ Some (container_of c)
+    → IsNumber bytes (container_of c) l None → (c.keyed && places.is_itself l) ≡ false → IsEntered bytes s t l Nothing
+entered_nothing bytes t s c l tree_is v is n out = go t (holder bytes t s (container_of c) v is) tree_is
+  where
+    go : (t : Tree) → Holder bytes s (container_of c) t → IsTree t → tree_child t l ≡ None
+    go t (inl (ts, e, h)) tree_is = ap (λ t. tree_child t l) e ∙ missing ts (count bytes (container_of c)) l h.2 (n.0 h.0)
+    go t (inr (ms, e, h)) tree_is =
+        let itself_out : places.is_itself l ≡ false = sym (ap (λ b. b && places.is_itself l) h.0) ∙ out in
+        ap (λ t. tree_child t l) e ∙ stays_nothing (object ms) l (object_stays ms) (object_key bytes s (container_of c) ms l h (subst IsTree e tree_is).0 (n.1 h.0)) itself_out
+
+pub entered_itself : (bytes : List ℕ) (t : Tree) (s : layout.Spot) (c : Container) (l : Leg) → IsValue bytes t s → container_at bytes s ≡ Some (container_of c) → (c.keyed && places.is_itself l) ≡ true → IsEntered bytes s t l Itself
+entered_itself bytes t s c l v is at = go t (holder bytes t s (container_of c) v is)
+  where
+    both : (a b : Bool) → (a && b) ≡ true → (a ≡ true) × (b ≡ true)
+    both true b e = (refl, e)
+    both false b e = let no : ⊥ = cc in absurd no
+
+    go : (t : Tree) → Holder bytes s (container_of c) t → (tree_child t l ≡ Some t) × (position_of t l ≡ [])
+    go t (inl (ts, e, h)) = keyed_clash c.keyed (both c.keyed (places.is_itself l) at).0 h.0
+    go t (inr (ms, e, h)) = subst (λ t. (tree_child t l ≡ Some t) × (position_of t l ≡ [])) (sym e) (stays_itself (object ms) l (object_stays ms) (both c.keyed (places.is_itself l) at).1)
+
+-- ---- legs
+
+pub led_nothing : (bytes : List ℕ) (t : Tree) (s : layout.Spot) (l : Leg) (ls : Path) (place : Place) → IsEntered bytes s t l Nothing → IsLed bytes s place (positions (l ∷ ls) t) None
+led_nothing bytes t s l ls place e =
+    subst (λ o. IsLed bytes s place (option_and_then (λ v. option_map (λ ks. position_of t l ++ ks) (positions ls v)) o) None) (sym e) refl
+
+itself_led : (bytes : List ℕ) (s : layout.Spot) (place : Place) (o : Option (List ℕ)) (found : Option Place) → IsLed bytes s place o found → IsLed bytes s place (option_map (λ ks. [] ++ ks) o) found
+itself_led bytes s place None found h = h
+itself_led bytes s place (Some ks) found h = h
+
+pub led_itself : (bytes : List ℕ) (t : Tree) (s : layout.Spot) (l : Leg) (ls : Path) (place : Place) (found : Option Place) → IsEntered bytes s t l Itself → IsLed bytes s place (positions ls t) found → IsLed bytes s place (positions (l ∷ ls) t) found
+led_itself bytes t s l ls place found e h =
+    subst (λ o. IsLed bytes s place (option_and_then (λ v. option_map (λ ks. position_of t l ++ ks) (positions ls v)) o) found) (sym e.0)
+    (subst (λ js. IsLed bytes s place (option_map (λ ks. js ++ ks) (positions ls t)) found) (sym e.1) (itself_led bytes s place (positions ls t) found h))
+
+in_holder : (f : layout.Container → Option (List ℕ)) (o : Option layout.Container) (d : layout.Container) → o ≡ Some d → option_and_then f o ≡ f d
+in_holder f o d e = ap (option_and_then f) e
+
+value_led : (bytes : List ℕ) (s : layout.Spot) (c : Container) (k : ℕ) (u : Spot) (place : Place) (o : Option (List ℕ)) (found : Option Place) → IsIn bytes s c k → spot_of u ≡ child bytes (container_of c) k
+    → IsLed bytes (spot_of u) (Inside c k) o found → IsLed bytes s place (option_map (λ ks. (k ∷ []) ++ ks) o) found
+value_led bytes s c k u place None found i e h = h
+value_led bytes s c k u place (Some []) found i e h =
+    subst (IsLedTo bytes s place (k ∷ [])) (sym h) (i.stands, i.low, λ act. in_holder (λ d. act d k) (container_at bytes s) (container_of c) i.is)
+value_led bytes s c k u place (Some (j ∷ js)) None i e h = absurd h
+value_led bytes s c k u place (Some (j ∷ js)) (Some Root) i e h = absurd h
+value_led bytes s c k u place (Some (j ∷ js)) (Some (Inside d n)) i e h =
+    (h.0, h.1, λ act. in_holder (λ d. at_holder bytes act (child bytes d k) (j ∷ js)) (container_at bytes s) (container_of c) i.is ∙ ap (λ w. at_holder bytes act w (j ∷ js)) (sym e) ∙ h.2 act)
+
+pub led_value : (bytes : List ℕ) (t : Tree) (s : layout.Spot) (l : Leg) (ls : Path) (place : Place) (c : Container) (k : ℕ) (u : Spot) (found : Option Place) → IsEntered bytes s t l (Value c k u)
+    → ((v : Tree) → IsTree v → IsValue bytes v (spot_of u) → IsLed bytes (spot_of u) (Inside c k) (positions ls v) found) → IsTree t → IsLed bytes s place (positions (l ∷ ls) t) found
+led_value bytes t s l ls place c k u found e h is =
+    let (v, at, stands) = e.4 in
+    subst (λ o. IsLed bytes s place (option_and_then (λ v. option_map (λ ks. position_of t l ++ ks) (positions ls v)) o) found) (sym at)
+    (subst (λ js. IsLed bytes s place (option_map (λ ks. js ++ ks) (positions ls v)) found) (sym e.0)
+    (value_led bytes s c k u place (positions ls v) found e.1 e.2 (h v (step_is t l v is (leg_step t l v is at)) stands)))
+
+-- where a container stands, its k-th value does
+pub kid_there : (bytes : List ℕ) (t : Tree) (s : layout.Spot) (d : layout.Container) (k : ℕ) → IsValue bytes t s → container_at bytes s ≡ Some d → k < count bytes d → (v : Tree) × IsValue bytes v (child bytes d k)
+kid_there bytes t s d k v e low = go (holder bytes t s d v e)
+  where
+    go : Holder bytes s d t → (v : Tree) × IsValue bytes v (child bytes d k)
+    go (inl (ts, f, h)) = (nth ts k, kid_stands bytes d ts k (elements_values bytes s.window ts d h) low)
+    go (inr (ms, f, h)) = (nth (values ms) k, kid_stands bytes d (values ms) k (members_values bytes s.window ms d h) low)

@@ -1,0 +1,352 @@
+-- An edit that puts one value where a path leads, below the root: when it leaves its tree equal, how deep its tree is, and what is stored for it.
+use Rattle.std.proofs.Common.{◌≡◌, ℕ, zero, suc, ◌+◌, ◌≤◌, ◌<◌, max, Bool, true, false, true≢false, List, [], ◌∷◌, length, Option, Some, None, option_map, option_and_then, is_some, refl, sym, ap, subst, ◌∙◌, arith}
+use Rattle.tree_model.specs.Tree.{Tree, null, boolean, number, text, array, object, Trees, no_trees, tree, tree_list, Members, no_members, member, depth, trees_depth, members_depth, IsTree, AreTrees, HoldTrees}
+use Rattle.std.proofs.Common.{◌++◌, ◌==◌, if◌then◌else◌, ◌⊎◌, inl, inr}
+use Rattle.std.proofs.lemmas.Grind.{common_steps}
+use Rattle.tree_model.specs.Path.{Leg, key, cell, last, Path, child}
+use Rattle.tree_model.specs.Same.{same_tree}
+use Rattle.tree_model.proofs.SameLemmas.{tree_equal, tree_itself}
+use Rattle.binary_model.specs.Layout as layout
+use Rattle.binary_model.specs.Stands.{IsValue, Stands}
+use Rattle.binary_model.specs.Canonical.{spelling, canonical_length}
+use Rattle.tree_model.specs.Edit as model
+use Rattle.tree_model.specs.Edit.{set, replace}
+use Rattle.json_binary.specs.Place.{container_of}
+use Rattle.json_binary.specs.declared.place.Container.{Container}
+use Rattle.json_patch.specs.View.{runs_of}
+use Rattle.json_patch.specs.Stand.{HasValues}
+use Rattle.json_patch.specs.Led.{IsLed, ActsOn}
+use Rattle.json_patch.specs.Single.{IsPlanOf, IsInPlace}
+use Rattle.json_patch.specs.Answer.{IsStored, IsEncoded}
+use Rattle.json_patch.specs.declared.place.Place.TheVariants.{Root, Inside}
+use Rattle.json_patch.specs.declared.parts.Parts.{Parts as Changed}
+use Rattle.std.specs.Prelude.{Ok}
+use Rattle.json_patch.specs.declared.planning.Planned.{Planned}
+use Rattle.json_patch.specs.declared.planning.Planned.TheVariants as planned
+use Rattle.binary_model.specs.Change.{position_of, positions, at_holder, Run, runs, runs_from, grown, differing, Progress, step, replaced_by, with_value, finished, Same, Parts}
+use Rattle.json_patch.specs.Draft.{putting}
+use Rattle.binary_model.proofs.AgreeLemmas.{some_is}
+use Rattle.binary_model.proofs.StandLemmas.{values}
+use Rattle.binary_model.proofs.RefitLemmas.{nth, with_element, element_at}
+use Rattle.binary_model.proofs.KidsLemmas.{kids, with_nth_member, with_kid, Kids, to_kids}
+use Rattle.binary_model.proofs.LiftLemmas.{Reaches}
+use Rattle.binary_model.proofs.PositionLemmas.{put_at, set_positions, replace_positions}
+
+-- the value where the positions lead
+abbrev pub value_at : List ℕ → Tree → Tree
+value_at [] t = t
+value_at (k ∷ ks) t = value_at ks (nth (kids t) k)
+
+none_some : {X : Type 0} (x : X) → None ≡ Some x → ⊥
+none_some x e = true≢false (sym (ap is_some e))
+
+-- ---- it leaves its tree equal exactly where the value is equal
+
+nth_with : (ts : Trees) (n : ℕ) (u : Tree) → n < length (tree_list ts) → nth (with_element ts n u) n ≡ u
+nth_with no_trees n u low = absurd (omega (arith, low))
+nth_with (tree t ts) zero u low = refl
+nth_with (tree t ts) (suc n) u low = nth_with ts n u (omega (arith, low))
+
+with_nth : (ts : Trees) (n : ℕ) → n < length (tree_list ts) → with_element ts n (nth ts n) ≡ ts
+with_nth no_trees n low = refl
+with_nth (tree t ts) zero low = refl
+with_nth (tree t ts) (suc n) low = ap (tree t) (with_nth ts n (omega (arith, low)))
+
+values_with : (ms : Members) (n : ℕ) (u : Tree) → values (with_nth_member ms n u) ≡ with_element (values ms) n u
+values_with no_members n u = refl
+values_with (member k t ms) zero u = refl
+values_with (member k t ms) (suc n) u = ap (tree t) (values_with ms n u)
+
+members_with_nth : (ms : Members) (n : ℕ) → n < length (tree_list (values ms)) → with_nth_member ms n (nth (values ms) n) ≡ ms
+members_with_nth no_members n low = refl
+members_with_nth (member k t ms) zero low = refl
+members_with_nth (member k t ms) (suc n) low = ap (member k t) (members_with_nth ms n (omega (arith, low)))
+
+pub kid_with : (t : Tree) (n : ℕ) (u : Tree) → n < length (tree_list (kids t)) → nth (kids (with_kid t n u)) n ≡ u
+kid_with null n u low = absurd (omega (arith, low))
+kid_with (boolean b) n u low = absurd (omega (arith, low))
+kid_with (number z) n u low = absurd (omega (arith, low))
+kid_with (text s) n u low = absurd (omega (arith, low))
+kid_with (array ts) n u low = nth_with ts n u low
+kid_with (object ms) n u low = ap (λ ts. nth ts n) (values_with ms n u) ∙ nth_with (values ms) n u low
+
+with_itself : (t : Tree) (n : ℕ) → n < length (tree_list (kids t)) → with_kid t n (nth (kids t) n) ≡ t
+with_itself null n low = absurd (omega (arith, low))
+with_itself (boolean b) n low = absurd (omega (arith, low))
+with_itself (number z) n low = absurd (omega (arith, low))
+with_itself (text s) n low = absurd (omega (arith, low))
+with_itself (array ts) n low = ap array (with_nth ts n low)
+with_itself (object ms) n low = ap object (members_with_nth ms n low)
+
+put_found : (ks : List ℕ) (u t : Tree) → Reaches ks t → value_at ks (put_at ks u t) ≡ u
+put_found [] u t r = refl
+put_found (k ∷ ks) u t r = ap (value_at ks) (kid_with t k (put_at ks u (nth (kids t) k)) r.0) ∙ put_found ks u (nth (kids t) k) r.1
+
+put_itself : (ks : List ℕ) (t : Tree) → Reaches ks t → put_at ks (value_at ks t) t ≡ t
+put_itself [] t r = refl
+put_itself (k ∷ ks) t r = ap (with_kid t k) (put_itself ks (nth (kids t) k) r.1) ∙ with_itself t k r.0
+
+by_equal : (a b : Bool) → (a ≡ true → b ≡ true) → (b ≡ true → a ≡ true) → a ≡ b
+by_equal true true f g = refl
+by_equal true false f g = sym (f refl)
+by_equal false true f g = g refl
+by_equal false false f g = refl
+
+pub same_put : (ks : List ℕ) (u t : Tree) → Reaches ks t → same_tree t (put_at ks u t) ≡ same_tree (value_at ks t) u
+same_put ks u t r = by_equal (same_tree t (put_at ks u t)) (same_tree (value_at ks t) u)
+    (λ h. let e : value_at ks t ≡ u = ap (value_at ks) (tree_equal t (put_at ks u t) h) ∙ put_found ks u t r in subst (λ v. same_tree (value_at ks t) v ≡ true) e (tree_itself (value_at ks t)))
+    (λ h. let e : put_at ks u t ≡ t = ap (λ v. put_at ks v t) (sym (tree_equal (value_at ks t) u h)) ∙ put_itself ks t r in subst (λ v. same_tree t v ≡ true) (sym e) (tree_itself t))
+
+-- ---- it is no deeper than what was there, or than the value below its containers
+
+elements_deep : (ts : Trees) (n : ℕ) (u : Tree) → trees_depth (with_element ts n u) ≤ max (trees_depth ts) (depth u)
+elements_deep no_trees n u = omega arith
+elements_deep (tree t ts) zero u = omega arith
+elements_deep (tree t ts) (suc n) u = let rest : trees_depth (with_element ts n u) ≤ max (trees_depth ts) (depth u) = elements_deep ts n u in omega (arith, rest)
+
+members_deep : (ms : Members) (n : ℕ) (u : Tree) → members_depth (with_nth_member ms n u) ≤ max (members_depth ms) (depth u)
+members_deep no_members n u = omega arith
+members_deep (member k t ms) zero u = omega arith
+members_deep (member k t ms) (suc n) u = let rest : members_depth (with_nth_member ms n u) ≤ max (members_depth ms) (depth u) = members_deep ms n u in omega (arith, rest)
+
+pub kid_deep : (t : Tree) (n : ℕ) (u : Tree) → depth (with_kid t n u) ≤ max (depth t) (suc (depth u))
+kid_deep null n u = omega arith
+kid_deep (boolean b) n u = omega arith
+kid_deep (number z) n u = omega arith
+kid_deep (text s) n u = omega arith
+kid_deep (array ts) n u = let e : trees_depth (with_element ts n u) ≤ max (trees_depth ts) (depth u) = elements_deep ts n u in omega (arith, e)
+kid_deep (object ms) n u = let e : members_depth (with_nth_member ms n u) ≤ max (members_depth ms) (depth u) = members_deep ms n u in omega (arith, e)
+
+nth_deep : (ts : Trees) (n : ℕ) → depth (nth ts n) ≤ trees_depth ts
+nth_deep no_trees n = omega arith
+nth_deep (tree t ts) zero = omega arith
+nth_deep (tree t ts) (suc n) = let rest : depth (nth ts n) ≤ trees_depth ts = nth_deep ts n in omega (arith, rest)
+
+values_deep : (ms : Members) → trees_depth (values ms) ≡ members_depth ms
+values_deep no_members = refl
+values_deep (member k t ms) = ap (max (depth t)) (values_deep ms)
+
+pub below_deep : (t : Tree) (n : ℕ) → n < length (tree_list (kids t)) → suc (depth (nth (kids t) n)) ≤ depth t
+below_deep null n low = absurd (omega (arith, low))
+below_deep (boolean b) n low = absurd (omega (arith, low))
+below_deep (number z) n low = absurd (omega (arith, low))
+below_deep (text s) n low = absurd (omega (arith, low))
+below_deep (array ts) n low = let e : depth (nth ts n) ≤ trees_depth ts = nth_deep ts n in omega (arith, e)
+below_deep (object ms) n low = let e : depth (nth (values ms) n) ≤ members_depth ms = subst (λ d. depth (nth (values ms) n) ≤ d) (values_deep ms) (nth_deep (values ms) n) in omega (arith, e)
+
+pub put_deep : (ks : List ℕ) (u t : Tree) (most : ℕ) → Reaches ks t → depth t ≤ most → length ks + depth u ≤ most → depth (put_at ks u t) ≤ most
+put_deep [] u t most r h g = omega (arith, g)
+put_deep (k ∷ ks) u t zero r h g = absurd (omega (arith, g))
+put_deep (k ∷ ks) u t (suc m) r h g =
+    let kid : suc (depth (nth (kids t) k)) ≤ depth t = below_deep t k r.0 in
+    let inner : depth (put_at ks u (nth (kids t) k)) ≤ m = put_deep ks u (nth (kids t) k) m r.1 (omega (arith, kid, h)) (omega (arith, g)) in
+    let one : depth (with_kid t k (put_at ks u (nth (kids t) k))) ≤ max (depth t) (suc (depth (put_at ks u (nth (kids t) k)))) = kid_deep t k (put_at ks u (nth (kids t) k)) in
+    omega (arith, inner, one, h)
+
+-- ---- no path enters more values than it has legs
+
+few_positions : (t : Tree) (l : Leg) → length (position_of t l) ≤ 1
+few_positions null l = omega arith
+few_positions (boolean b) l = omega arith
+few_positions (number z) l = omega arith
+few_positions (text s) l = omega arith
+few_positions (array ts) (key k) = omega arith
+few_positions (array ts) (cell n) = omega arith
+few_positions (array ts) (last n) = omega arith
+few_positions (object ms) (key k) = omega arith
+few_positions (object ms) (cell n) = omega arith
+few_positions (object ms) (last n) = omega arith
+
+joined : (xs ys : List ℕ) → length (xs ++ ys) ≡ length xs + length ys
+joined xs ys = grind (arith, common_steps)
+
+pub few_entered : (ls : Path) (t : Tree) (ks : List ℕ) → positions ls t ≡ Some ks → length ks ≤ length ls
+few_entered [] t ks e = subst (λ js. length js ≤ 0) (some_is e) (omega arith)
+few_entered (l ∷ ls) t ks e = by_child (λ u js f. few_entered ls u js f) (child t l) e
+  where
+    by_rest : (o : Option (List ℕ)) → ((js : List ℕ) → o ≡ Some js → length js ≤ length ls) → option_map (λ js. position_of t l ++ js) o ≡ Some ks → length ks ≤ suc (length ls)
+    by_rest None f h = absurd (none_some ks h)
+    by_rest (Some js) f h =
+        let few : length js ≤ length ls = f js refl in
+        let one : length (position_of t l) ≤ 1 = few_positions t l in
+        let all : length (position_of t l ++ js) ≡ length (position_of t l) + length js = joined (position_of t l) js in
+        subst (λ xs. length xs ≤ suc (length ls)) (some_is h) (omega (arith, few, one, all))
+
+    by_child : ((u : Tree) (js : List ℕ) → positions ls u ≡ Some js → length js ≤ length ls) → (o : Option Tree) → option_and_then (λ u. option_map (λ js. position_of t l ++ js) (positions ls u)) o ≡ Some ks → length ks ≤ suc (length ls)
+    by_child again None h = absurd (none_some ks h)
+    by_child again (Some u) h = by_rest (positions ls u) (again u) h
+
+-- ---- no more places differ than there are
+
+grown_by_one : (at x y : ℕ) (rs : List Run) → differing (grown at x y rs) ≡ suc (differing rs)
+grown_by_one at x y [] = refl
+grown_by_one at x y (r ∷ rs) = by_place (suc at == r.at)
+  where
+    by_place : (b : Bool) → differing (if b then record { at = at; before = x ∷ r.before; after = y ∷ r.after } ∷ rs else record { at = at; before = x ∷ []; after = y ∷ [] } ∷ r ∷ rs) ≡ suc (differing (r ∷ rs))
+    by_place true = omega arith
+    by_place false = omega arith
+
+few_from : (at : ℕ) (xs ys : List ℕ) → differing (runs_from at xs ys) ≤ length xs
+few_from at [] ys = omega arith
+few_from at (x ∷ xs) [] = omega arith
+few_from at (x ∷ xs) (y ∷ ys) = by_same (x == y) (few_from (suc at) xs ys)
+  where
+    by_same : (b : Bool) → differing (runs_from (suc at) xs ys) ≤ length xs → differing (if b then runs_from (suc at) xs ys else grown at x y (runs_from (suc at) xs ys)) ≤ suc (length xs)
+    by_same true few = omega (arith, few)
+    by_same false few = let one : differing (grown at x y (runs_from (suc at) xs ys)) ≡ suc (differing (runs_from (suc at) xs ys)) = grown_by_one at x y (runs_from (suc at) xs ys) in omega (arith, one, few)
+
+pub few_places : (old new : List ℕ) → differing (runs old new) ≤ length old
+few_places old new = few_from 0 old new
+
+-- ---- the value stands in place
+
+trees_nth : (ts : Trees) (n : ℕ) → AreTrees ts → IsTree (nth ts n)
+trees_nth no_trees n h = tt
+trees_nth (tree t ts) zero h = h.0
+trees_nth (tree t ts) (suc n) h = trees_nth ts n h.1
+
+values_trees : (ms : Members) → HoldTrees ms → AreTrees (values ms)
+values_trees no_members h = tt
+values_trees (member k t ms) h = (h.0, values_trees ms h.1)
+
+kid_tree : (t : Tree) (n : ℕ) → IsTree t → IsTree (nth (kids t) n)
+kid_tree null n h = tt
+kid_tree (boolean b) n h = tt
+kid_tree (number z) n h = tt
+kid_tree (text s) n h = tt
+kid_tree (array ts) n h = trees_nth ts n h
+kid_tree (object ms) n h = trees_nth (values ms) n (values_trees ms h.1)
+
+pub at_tree : (ks : List ℕ) (t : Tree) → IsTree t → IsTree (value_at ks t)
+at_tree [] t h = h
+at_tree (k ∷ ks) t h = at_tree ks (nth (kids t) k) (kid_tree t k h)
+
+pub at_shallow : (ks : List ℕ) (t : Tree) (most : ℕ) → Reaches ks t → depth t ≤ most → depth (value_at ks t) ≤ most
+at_shallow [] t most r h = h
+at_shallow (k ∷ ks) t most r h = let kid : suc (depth (nth (kids t) k)) ≤ depth t = below_deep t k r.0 in at_shallow ks (nth (kids t) k) most r.1 (omega (arith, kid, h))
+
+-- the spot of a container's value, as what an act may hand on
+spot_act : List ℕ → layout.Container → ℕ → Option (List ℕ)
+spot_act bytes c k = Some ((layout.child bytes c k).tag ∷ (layout.child bytes c k).at ∷ (layout.child bytes c k).window ∷ [])
+
+spot_from : Option (List ℕ) → layout.Spot
+spot_from (Some (tag ∷ at ∷ window ∷ [])) = record { tag = tag; at = at; window = window }
+spot_from o = record { tag = 0; at = 0; window = 0 }
+
+same_spot : (bytes : List ℕ) (c d : layout.Container) (k n : ℕ) → spot_act bytes c k ≡ spot_act bytes d n → layout.child bytes c k ≡ layout.child bytes d n
+unfolding spot_act spot_from
+same_spot bytes c d k n e = ap spot_from e
+
+kid_stands : (bytes : List ℕ) (t : Tree) (s : layout.Spot) (c : layout.Container) (k : ℕ) → Kids bytes t s c → k < length (tree_list (kids t)) → IsValue bytes (nth (kids t) k) (layout.child bytes c k)
+kid_stands bytes t s c k h low =
+    let e : 0 + k ≡ k = omega arith in
+    subst (λ i. IsValue bytes (nth (kids t) k) (layout.child bytes c i)) e (element_at bytes c (kids t) 0 k h.elements low).1
+
+pub stands_there : (ks : List ℕ) (k : ℕ) (bytes : List ℕ) (t : Tree) (s : layout.Spot) (c : layout.Container) (n : ℕ) → IsValue bytes t s → Reaches (k ∷ ks) t
+    → ((act : layout.Container → ℕ → Option (List ℕ)) → at_holder bytes act s (k ∷ ks) ≡ act c n) → IsValue bytes (value_at (k ∷ ks) t) (layout.child bytes c n)
+stands_there [] k bytes t s c n v r acts =
+    let low = r.0 in
+    let (d, h) = to_kids bytes t s v (omega (arith, low)) in
+    let same = sym (ap (option_and_then (λ c. spot_act bytes c k)) h.is) ∙ acts (spot_act bytes) in
+    subst (IsValue bytes (nth (kids t) k)) (same_spot bytes d c k n same) (kid_stands bytes t s d k h low)
+stands_there (l ∷ ls) k bytes t s c n v r acts =
+    let low = r.0 in
+    let (d, h) = to_kids bytes t s v (omega (arith, low)) in
+    stands_there ls l bytes (nth (kids t) k) (layout.child bytes d k) c n (kid_stands bytes t s d k h low) r.1
+    (λ act. sym (ap (option_and_then (λ c. at_holder bytes act (layout.child bytes c k) (l ∷ ls))) h.is) ∙ acts act)
+
+-- ---- the change of one pair
+
+pub step_same : (edit : List ℕ → Option (List ℕ)) (after : Tree) (p : Progress) → same_tree p.«tree» after ≡ true → step edit after p ≡ p
+step_same edit after p h = rw h refl
+
+pub step_other : (edit : List ℕ → Option (List ℕ)) (after : Tree) (p : Progress) → same_tree p.«tree» after ≡ false → step edit after p ≡ record { «tree» = after; edited = option_and_then edit p.edited }
+step_other edit after p h = rw h refl
+
+module _ (bytes : List ℕ) (t u : Tree) (path : Path) (ks : List ℕ) (act : Path → Tree → Tree → Tree)
+    (put : (act path u t ≡ put_at ks u t) × Reaches ks t) where
+  same_after : same_tree t (act path u t) ≡ same_tree (value_at ks t) u
+  same_after = ap (same_tree t) put.0 ∙ same_put ks u t put.1
+
+  pub single_same : same_tree (value_at ks t) u ≡ true → finished bytes t (replaced_by act path u (record { «tree» = t; edited = Some bytes })) ≡ Same
+  single_same h =
+      let as_it_was = step_same (putting path u t) (act path u t) (record { «tree» = t; edited = Some bytes }) (same_after ∙ h) in
+      ap (finished bytes t) as_it_was ∙ rw (tree_itself t) refl
+
+  pub single_parts : (new : List ℕ) → same_tree (value_at ks t) u ≡ false → putting path u t bytes ≡ Some new → finished bytes t (replaced_by act path u (record { «tree» = t; edited = Some bytes })) ≡ Parts (runs bytes new)
+  single_parts new h made =
+      let stepped = step_other (putting path u t) (act path u t) (record { «tree» = t; edited = Some bytes }) (same_after ∙ h) in
+      ap (finished bytes t) (stepped ∙ ap (λ o. record { «tree» = act path u t; edited = o }) made) ∙ rw (same_after, h) refl
+
+  pub single_shallow : (most : ℕ) → depth t ≤ most → length ks + depth u ≤ most → depth (act path u t) ≤ most
+  single_shallow most h g = subst (λ x. depth x ≤ most) (sym put.0) (put_deep ks u t most put.1 h g)
+
+-- ---- where the place is known
+
+pub led_inside : (bytes : List ℕ) (s : layout.Spot) (o : Option (List ℕ)) (c : Container) (k : ℕ) → IsLed bytes s Root o (Some (Inside c k))
+    → (j : ℕ) × (js : List ℕ) × (o ≡ Some (j ∷ js)) × ActsOn bytes s (j ∷ js) (Inside c k)
+led_inside bytes s None c k h = let no : ⊥ = cc in absurd no
+led_inside bytes s (Some []) c k h = let no : ⊥ = cc in absurd no
+led_inside bytes s (Some (j ∷ js)) c k h = (j, js, refl, h)
+
+-- the place that a path leads to in bytes that stand for a tree, and the value there
+pub record Place (bytes : List ℕ) (t : Tree) (path : Path) (c : Container) (k : ℕ) : Type 0 where
+  pub first : ℕ
+  pub others : List ℕ
+  pub at : positions path t ≡ Some (first ∷ others)
+  pub values : HasValues bytes c
+  pub low : k < layout.count bytes (container_of c)
+  pub acts : (act : layout.Container → ℕ → Option (List ℕ)) → at_holder bytes act (layout.root bytes) (first ∷ others) ≡ act (container_of c) k
+  pub reaches : Reaches (first ∷ others) t
+  pub there : IsValue bytes (value_at (first ∷ others) t) (layout.child bytes (container_of c) k)
+  pub is : IsTree (value_at (first ∷ others) t)
+  pub shallow : depth (value_at (first ∷ others) t) ≤ 100
+
+pub place_found : (bytes : List ℕ) (t : Tree) (path : Path) (s : layout.Spot) (c : Container) (k : ℕ) → Stands bytes t → s ≡ layout.root bytes → IsLed bytes s Root (positions path t) (Some (Inside c k)) → Place bytes t path c k
+place_found bytes t path s c k stands root led =
+    let found = led_inside bytes (layout.root bytes) (positions path t) c k (subst (λ s. IsLed bytes s Root (positions path t) (Some (Inside c k))) root led) in
+    let reach = (set_positions path null t (found.0 ∷ found.1) stands.«tree» found.2).1 in
+    record {
+      first = found.0;
+      others = found.1;
+      at = found.2;
+      values = found.3.0;
+      low = found.3.1;
+      acts = found.3.2;
+      reaches = reach;
+      there = stands_there found.1 found.0 bytes t (layout.root bytes) (container_of c) k stands.value reach found.3.2;
+      is = at_tree (found.0 ∷ found.1) t stands.«tree»;
+      shallow = at_shallow (found.0 ∷ found.1) t 100 reach stands.nested;
+    }
+
+-- ---- the plan of one pair
+
+module _ (bytes : List ℕ) (t u : Tree) (path : Path) (c : Container) (k : ℕ) (stands : Stands bytes t) (p : Place bytes t path c k) where
+  made_there : (new : List ℕ) → with_value bytes (spelling u) (container_of c) k ≡ Some new → putting path u t bytes ≡ Some new
+  made_there new made = ap (option_and_then (at_holder bytes (with_value bytes (spelling u)) (layout.root bytes))) p.at ∙ p.acts (with_value bytes (spelling u)) ∙ made
+
+  pub same_plan : (e : model.Edit) → (e ≡ model.Set ((path, u) ∷ [])) ⊎ (e ≡ model.Replace ((path, u) ∷ [])) → same_tree (value_at (p.first ∷ p.others) t) u ≡ true → IsPlanOf bytes t e planned.Same
+  same_plan e (inl is) h = subst (λ e. IsPlanOf bytes t e planned.Same) (sym is)
+      (subst (λ c. IsStored c (depth (set path u t)) (canonical_length (set path u t)) planned.Same) (sym (single_same bytes t u path (p.first ∷ p.others) set (set_positions path u t (p.first ∷ p.others) stands.«tree» p.at) h)) tt)
+  same_plan e (inr is) h = subst (λ e. IsPlanOf bytes t e planned.Same) (sym is)
+      (subst (λ c. IsStored c (depth (replace path u t)) (canonical_length (replace path u t)) planned.Same) (sym (single_same bytes t u path (p.first ∷ p.others) replace (replace_positions path u t (p.first ∷ p.others) stands.«tree» p.at) h)) tt)
+
+  pub parts_plan : (e : model.Edit) → (e ≡ model.Set ((path, u) ∷ [])) ⊎ (e ≡ model.Replace ((path, u) ∷ [])) → same_tree (value_at (p.first ∷ p.others) t) u ≡ false
+      → (new : List ℕ) → with_value bytes (spelling u) (container_of c) k ≡ Some new → length path + depth u ≤ 100 → (parts : Changed) → runs_of parts ≡ runs bytes new → IsPlanOf bytes t e (planned.Parts parts)
+  parts_plan e (inl is) h new made low parts runs_are =
+      let put = set_positions path u t (p.first ∷ p.others) stands.«tree» p.at in
+      let few : length (p.first ∷ p.others) ≤ length path = few_entered path t (p.first ∷ p.others) p.at in
+      subst (λ e. IsPlanOf bytes t e (planned.Parts parts)) (sym is)
+      (subst (λ c. IsStored c (depth (set path u t)) (canonical_length (set path u t)) (planned.Parts parts)) (sym (single_parts bytes t u path (p.first ∷ p.others) set put new h (made_there new made)))
+      (single_shallow bytes t u path (p.first ∷ p.others) set put 100 stands.nested (omega (arith, few, low)), runs_are))
+  parts_plan e (inr is) h new made low parts runs_are =
+      let put = replace_positions path u t (p.first ∷ p.others) stands.«tree» p.at in
+      let few : length (p.first ∷ p.others) ≤ length path = few_entered path t (p.first ∷ p.others) p.at in
+      subst (λ e. IsPlanOf bytes t e (planned.Parts parts)) (sym is)
+      (subst (λ c. IsStored c (depth (replace path u t)) (canonical_length (replace path u t)) (planned.Parts parts)) (sym (single_parts bytes t u path (p.first ∷ p.others) replace put new h (made_there new made)))
+      (single_shallow bytes t u path (p.first ∷ p.others) replace put 100 stands.nested (omega (arith, few, low)), runs_are))
+
+pub none_encoded : (t : Tree) (plan : Planned) → IsInPlace plan → IsEncoded t (Ok plan)
+none_encoded t planned.Same h = tt
+none_encoded t (planned.Parts parts) h = tt
+none_encoded t (planned.Full out) h = absurd h

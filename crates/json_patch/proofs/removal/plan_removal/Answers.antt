@@ -1,0 +1,35 @@
+use Rattle.std.proofs.Common.{◌≡◌, Some, None, map, sym, ap, subst, ◌∙◌}
+use Rattle.tree_model.specs.Edit.{try_remove}
+use Rattle.binary_model.specs.Layout as layout
+use Rattle.binary_model.specs.Stands.{IsValue}
+use Rattle.binary_model.specs.Change.{runs}
+use Rattle.json_path.specs.View.{leg_of}
+use Rattle.json_binary.specs.Place.{spot_of}
+use Rattle.json_patch.specs.Led.{IsTaken}
+use Rattle.json_patch.specs.Writes.{put_writes}
+use Rattle.json_patch.proofs.RemovalLemmas.{none_taken, kept_plan, removed_plan}
+use Rattle.json_patch.proofs.removal.plan_removal.Goals as goal
+
+pub returns-in_default-clause-plan : goal.returns-in_default-clause-plan
+returns-in_default-clause-plan c =
+    let bytes = c.args.bytes.now in
+    let path = c.args.path.now in
+    λ t stands.
+    let taken = c.taken_from.ensures t stands.«tree» (subst (IsValue bytes t) (sym c.root.ensures.place) stands.value) in
+    let found = none_taken bytes t (spot_of c.root.result) (map leg_of c.legs.result.now) c.taken_from.result c.in_default.not-Some taken in
+    kept_plan bytes t path (subst (λ ls. try_remove ls t ≡ None) c.legs.ensures.legs found)
+
+pub returns-clause-plan : goal.returns-clause-plan
+returns-clause-plan c =
+    let bytes = c.args.bytes.now in
+    let path = c.args.path.now in
+    let box = c.in-Some.container in
+    let k = c.in-Some.k in
+    λ t stands.
+    let taken = c.taken_from.ensures t stands.«tree» (subst (IsValue bytes t) (sym c.root.ensures.place) stands.value) in
+    let found = subst (λ f. IsTaken bytes (spot_of c.root.result) t (map leg_of c.legs.result.now) f) c.in-Some.is taken in
+    let at_root = subst (λ s. IsTaken bytes s t (map leg_of c.legs.result.now) (Some (box, k))) c.root.ensures.place found in
+    let by_path = subst (λ ls. IsTaken bytes (layout.root bytes) t ls (Some (box, k))) c.legs.ensures.legs at_root in
+    let made = c.in_ok-writes.ensures in
+    removed_plan bytes t path box k (put_writes c.in_ok-writes.writes.items bytes) c.in_ok-runs_of_writes.field-0 stands by_path made.0
+    (c.in_ok-runs_of_writes.ensures ∙ ap (λ ws. runs bytes (put_writes ws bytes)) c.deref.ensures.value)

@@ -1,0 +1,51 @@
+use Rattle.std.proofs.Common.{◌≡◌, ◌+◌, ◌≤◌, Some, length, map, option_map, sym, ap, subst, ◌∙◌, arith}
+use Rattle.std.proofs.lemmas.Grind.{common_steps}
+use Rattle.tree_model.specs.Tree.{depth}
+use Rattle.tree_model.specs.Same.{same_tree}
+use Rattle.binary_model.specs.Stands.{IsValue}
+use Rattle.binary_model.specs.Canonical.{spelling}
+use Rattle.binary_model.specs.Change.{positions, with_value, runs}
+use Rattle.json_path.specs.View.{leg_of}
+use Rattle.json_tree.specs.View.{tree_of}
+use Rattle.json_binary.specs.Place.{container_of, spot_of}
+use Rattle.json_patch.specs.Led.{IsLed}
+use Rattle.json_patch.specs.Writes.{IsMade, put_writes}
+use Rattle.json_patch.specs.declared.place.Place.TheVariants.{Root, Inside}
+use Rattle.json_patch.proofs.SingleLemmas.{place_found, same_plan, parts_plan}
+use Rattle.json_patch.proofs.single.plan_single.Goals as goal
+
+pub returns-then-same-clause-plan : goal.returns-then-same-clause-plan
+returns-then-same-clause-plan c =
+    let bytes = c.args.bytes.now in
+    let path = c.args.pair.now.path in
+    let u = tree_of c.args.pair.now.value in
+    let box = c.in-Some-Inside.container in
+    let k = c.in-Some-Inside.k in
+    λ t e stands edit.
+    let led = c.in-Some-Inside.ensures t stands.«tree» (subst (IsValue bytes t) (sym c.root.ensures.place) stands.value) in
+    let here = subst (λ f. IsLed bytes (spot_of c.root.result) Root (positions (map leg_of c.legs-legs.result.now) t) (Some f)) c.in-Some-Inside.field-0-is led in
+    let led_by = subst (λ ls. IsLed bytes (spot_of c.root.result) Root (positions ls t) (Some (Inside box k))) c.legs-legs.ensures.legs here in
+    let place = place_found bytes t path (spot_of c.root.result) box k stands c.root.ensures.place led_by in
+    let old = c.in_ok-decode_value.ensures _ place.is (subst (IsValue bytes _) (sym c.in-Some.ensures.place) place.there) place.shallow in
+    let compared = ap (λ v. same_tree v u) (sym old) ∙ sym c.same.ensures in
+    same_plan bytes t u path box k stands place e edit (compared ∙ c.if-same.true)
+
+pub returns-clause-plan : goal.returns-clause-plan
+returns-clause-plan c =
+    let bytes = c.args.bytes.now in
+    let path = c.args.pair.now.path in
+    let u = tree_of c.args.pair.now.value in
+    let box = c.in-Some-Inside.container in
+    let k = c.in-Some-Inside.k in
+    λ t e stands edit.
+    let led = c.in-Some-Inside.ensures t stands.«tree» (subst (IsValue bytes t) (sym c.root.ensures.place) stands.value) in
+    let here = subst (λ f. IsLed bytes (spot_of c.root.result) Root (positions (map leg_of c.legs-legs.result.now) t) (Some f)) c.in-Some-Inside.field-0-is led in
+    let led_by = subst (λ ls. IsLed bytes (spot_of c.root.result) Root (positions ls t) (Some (Inside box k))) c.legs-legs.ensures.legs here in
+    let place = place_found bytes t path (spot_of c.root.result) box k stands c.root.ensures.place led_by in
+    let old = c.in_ok-decode_value.ensures _ place.is (subst (IsValue bytes _) (sym c.in-Some.ensures.place) place.there) place.shallow in
+    let compared = ap (λ v. same_tree v u) (sym old) ∙ sym c.same.ensures in
+    let made = subst (λ f. IsMade bytes (with_value bytes (spelling u) (container_of box) k) (option_map (λ ws. ws.items) f)) c.in-Some-2.is c.in_ok-writes.ensures in
+    let legs : length (map leg_of c.legs-legs.result.now) ≡ length path = ap length c.legs-legs.ensures.legs in
+    let low : length path + depth u ≤ 100 = grind (arith, common_steps, legs, c.depth.ensures, c.if-legs-gt-MAX_NESTED.false, c.if-depth-legs.false) in
+    parts_plan bytes t u path box k stands place e edit (compared ∙ c.if-same.false) (put_writes c.in-Some-2.writes.items bytes) made.0 low c.in_ok-runs_of_writes.field-0
+    (c.in_ok-runs_of_writes.ensures ∙ ap (λ ws. runs bytes (put_writes ws bytes)) c.deref.ensures.value)

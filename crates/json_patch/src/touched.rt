@@ -1,0 +1,72 @@
+//! The runs of places that writes change, without the document that they make.
+ghost use Rattle.std.specs.Prelude.{◌≡◌, ◌≤◌, ◌+◌, ℕ, List, length, map, drop, IfOk, OnOk};
+ghost use Rattle.binary_model.specs.Change.{runs, written};
+ghost use Rattle.json_patch.specs.View.{run_of, runs_of};
+ghost use Rattle.json_patch.specs.Writes.{put_writes, AreInside, AreRising, lengthened};
+
+use crate::parts::{Parts, Patch};
+use crate::writes::Write;
+use std::alloc::{AllocError, Global};
+
+/// The maximal runs of places that writes change, found by looking at the written places alone:
+/// its time is that of the writes' bytes, however long the document is. A run may go over two
+/// writes that touch.
+pub fn runs_of_writes(alloc: Global, bytes: &[u8], writes: &[Write]) -> Result<Parts, AllocError>
+    requires inside { AreInside (length bytes.now) writes.now }
+    requires rising { AreRising 0 writes.now }
+    requires small { length bytes.now ≤ 16777216 }
+    ensures { IfOk result (λ parts. runs_of parts ≡ runs bytes.now (put_writes writes.now bytes.now)) }
+{
+    let mut patches = Vec::new(alloc);
+    for write in writes {
+        add_write(alloc, bytes, write, &mut patches)?;
+    }
+    Ok(Parts::from_patches(patches))
+}
+
+// Adds the places that one more write changes, behind all that were written. At an error the
+// patches may be those of a part of it, with a last one that is half made.
+fn add_write(
+    alloc: Global,
+    bytes: &[u8],
+    write: &Write,
+    patches: &mut Vec<Patch>,
+) -> Result<(), AllocError>
+    requires inside { write.now.at + length write.now.bytes.items ≤ length bytes.now }
+    requires small { length bytes.now ≤ 16777216 }
+    ensures { OnOk result ((new : List ℕ) → length new ≡ length bytes.now →
+        drop write.now.at new ≡ drop write.now.at bytes.now →
+        map run_of patches.old.items ≡ runs bytes.now new →
+        map run_of patches.new.items ≡ runs bytes.now (written new write.now.at write.now.bytes.items)) }
+{
+    for k in 0..write.bytes.len() {
+        let at = write.at + k;
+        let after = write.bytes[k];
+        if bytes[at] != after {
+            add_place(alloc, at, bytes[at], after, patches)?;
+        }
+    }
+    Ok(())
+}
+
+// Adds one differing place behind the others: the last run grows, where it ends there. At an error
+// that run may be half grown.
+fn add_place(
+    alloc: Global,
+    at: usize,
+    before: u8,
+    after: u8,
+    patches: &mut Vec<Patch>,
+) -> Result<(), AllocError>
+    requires small { at ≤ 16777216 }
+    ensures { OnOk result (map run_of patches.new.items ≡ lengthened at before after (map run_of patches.old.items)) }
+{
+    match patches.last_mut() {
+        Some(last) if last.ends_at(at) => last.grow(before, after),
+        _ => {
+            let patch = Patch::of_place(alloc, at, before, after)?;
+            patches.push(patch)?;
+            Ok(())
+        }
+    }
+}
