@@ -41,8 +41,8 @@ class Pcg32:
         return (shifted >> turn | shifted << (32 - turn)) & 0xFFFFFFFF
 
 
-def made_objects(count):
-    rng, items = Pcg32(42, 54), []
+def made_objects(count, rng):
+    items = []
     for _ in range(count):
         number, item, tags = rng.word() % 1_000_000_000, rng.word() % 100_000, rng.word() % 1_000
         items.append({"id": number, "name": "item %d" % item, "tags": tags})
@@ -74,7 +74,7 @@ def timed(work):
 
 
 def coding(program, rounds):
-    items = made_objects(OBJECTS)
+    items = made_objects(OBJECTS, Pcg32(42, 54))
     text = json.dumps(items)
     count, _ = kernel(program, "encode", 1, OBJECTS)
     if count != encoded_length(items):
