@@ -12,3 +12,5 @@ pub mod WriteLemmas
 pub mod EncodeLemmas
 pub mod UsageLemmas
 pub mod SearchLemmas
+pub mod EqualLemmas
+pub mod NestingLemmas
