@@ -9,6 +9,8 @@ PROGRAM is the built `lobstore` (by default the one that `rt run` leaves in crat
   Linear in the bytes is a ratio of 10.
 - sets: N sets of one number (by default 10,000) in a document of 10 MB against as many in one of 10 KB of the same shape, each less the
   time of its insert alone.
+- pairs and removals: 100 statements that set two numbers each, and 100 that remove by one path, in the same 10 MB, each less the time of
+  the insert alone: the first copies the stored bytes once.
 - SQLite: M sets (by default 20) of that number in the same 10 MB by `json_set` in one UPDATE each, in memory, by its command line, less
   the time of the insert alone; for each of them, against ours. Left out where there is no `sqlite3`.
 
@@ -42,6 +44,14 @@ def insert_only(size):
 
 def with_sets(size, count):
     return insert_only(size) + "".join('s1 set 1 ["$.n",%d]\n' % (n + 1) for n in range(count))
+
+
+def with_pairs(size, count):
+    return insert_only(size) + "".join('s1 set 1 ["$.n",%d,"$.items[last].id",%d]\n' % (n + 1, n) for n in range(count))
+
+
+def with_removals(size, count):
+    return insert_only(size) + "".join('s1 remove 1 ["$.items[%d].name"]\n' % n for n in range(count))
 
 
 def sqlite_script(size, count):
@@ -95,6 +105,10 @@ def main():
     base, sets, large_base, large_sets = best(ours, scripts, args.rounds, 0)
     print("%d sets: 10 KB %.4f s, 10 MB %.4f s, ratio %.1f"
           % (args.sets, sets - base, large_sets - large_base, (large_sets - large_base) / max(sets - base, 1e-6)))
+
+    scripts = [with_pairs(large, 100), with_removals(large, 100)]
+    pairs, removals = best(ours, scripts, args.rounds, 0)
+    print("in 10 MB: a set of two numbers %.3f ms, a removal %.3f ms" % ((pairs - large_base) * 10, (removals - large_base) * 10))
 
     if shutil.which("sqlite3"):
         count = args.sqlite_sets

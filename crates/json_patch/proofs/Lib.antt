@@ -2,7 +2,14 @@ pub mod PartLemmas
 pub mod RoomLemmas
 pub mod WriteLemmas
 pub mod PlaceLemmas
+pub mod WeightLemmas
+pub mod TrailLemmas
 pub mod PlanLemmas
 pub mod TouchLemmas
+pub mod SpanLemmas
 pub mod RemovalLemmas
 pub mod SingleLemmas
+pub mod WithinLemmas
+pub mod DraftLemmas
+pub mod RestoredLemmas
+pub mod RemovalsLemmas

@@ -15,7 +15,7 @@ use Rattle.binary_model.proofs.AgreeLemmas.{some_is}
 use Rattle.binary_model.proofs.StandLemmas.{values, values_stand, values_length, keys_length}
 use Rattle.binary_model.proofs.AgainLemmas.{HasElements, HasMembers, keys_low}
 use Rattle.binary_model.proofs.RefitLemmas.{nth}
-use Rattle.binary_model.proofs.PositionLemmas.{leg_step, step_is}
+use Rattle.binary_model.proofs.PositionLemmas.{Itself as ItselfAt, Enters, Step, leg_step, step_is}
 use Rattle.json_edit.specs.Places as places
 use Rattle.json_edit.specs.Places.{place_in}
 use Rattle.json_binary.specs.declared.place.Spot.{Spot}
@@ -44,13 +44,13 @@ number_none bytes z s (unsigned width) h = refl
 number_none bytes z s kind h = absurd h
 
 -- a list or an object
-abbrev Holder : List ℕ → layout.Spot → layout.Container → Tree → Type 0
+abbrev pub Holder : List ℕ → layout.Spot → layout.Container → Tree → Type 0
 Holder bytes s d t = ((ts : Trees) × (t ≡ array ts) × HasElements bytes s.window ts d) ⊎ ((ms : Members) × (t ≡ object ms) × HasMembers bytes s.window ms d)
 
 no_container : {X : Type 0} (o : Option layout.Container) (d : layout.Container) → o ≡ None → o ≡ Some d → X
 no_container o d n e = let no : ⊥ = cc in absurd no
 
-holder : (bytes : List ℕ) (t : Tree) (s : layout.Spot) (d : layout.Container) → IsValue bytes t s → container_at bytes s ≡ Some d → Holder bytes s d t
+pub holder : (bytes : List ℕ) (t : Tree) (s : layout.Spot) (d : layout.Container) → IsValue bytes t s → container_at bytes s ≡ Some d → Holder bytes s d t
 holder bytes null s d v e = no_container (container_at bytes s) d (ap (λ k. container_as k s.at) v.0) e
 holder bytes (boolean b) s d v e = no_container (container_at bytes s) d (ap (λ k. container_as k s.at) v.0) e
 holder bytes (number z) s d v e = no_container (container_at bytes s) d (number_none bytes z s (kind_at bytes s.tag) v) e
@@ -58,13 +58,13 @@ holder bytes (text x) s d v e = no_container (container_at bytes s) d (ap (λ k.
 holder bytes (array ts) s d v e = inl (ts, refl, some_at (HasElements bytes s.window ts) (container_at bytes s) d e v)
 holder bytes (object ms) s d v e = inr (ms, refl, some_at (HasMembers bytes s.window ms) (container_at bytes s) d e v)
 
-elements_values : (bytes : List ℕ) (window : ℕ) (ts : Trees) (d : layout.Container) → HasElements bytes window ts d → Values bytes d ts
+pub elements_values : (bytes : List ℕ) (window : ℕ) (ts : Trees) (d : layout.Container) → HasElements bytes window ts d → Values bytes d ts
 elements_values bytes window ts d h =
     let floor : values_floor bytes d ≡ entries_end bytes d = ap (λ b. cond b (keys_end bytes d (count bytes d)) (entries_end bytes d)) h.0 in
     let whole = h.1.2 in
     record { number = h.2; elements = subst (λ n. AreElements bytes d 0 n ts) (sym floor) h.3; floor = (omega (arith, floor), omega (arith, floor, whole)) }
 
-members_values : (bytes : List ℕ) (window : ℕ) (ms : Members) (d : layout.Container) → HasMembers bytes window ms d → Values bytes d (values ms)
+pub members_values : (bytes : List ℕ) (window : ℕ) (ms : Members) (d : layout.Container) → HasMembers bytes window ms d → Values bytes d (values ms)
 members_values bytes window ms d h =
     let ks = map (λ m. m.0) (member_list ms) in
     let many = h.2 in
@@ -255,6 +255,24 @@ entered_itself bytes t s c l v is at = go t (holder bytes t s (container_of c) v
     go : (t : Tree) → Holder bytes s (container_of c) t → (tree_child t l ≡ Some t) × (position_of t l ≡ [])
     go t (inl (ts, e, h)) = keyed_clash c.keyed (both c.keyed (places.is_itself l) at).0 h.0
     go t (inr (ms, e, h)) = subst (λ t. (tree_child t l ≡ Some t) × (position_of t l ≡ [])) (sym e) (stays_itself (object ms) l (object_stays ms) (both c.keyed (places.is_itself l) at).1)
+
+-- ---- the step of a leg
+
+none_first : {X : Type 0} (k : ℕ) (ks : List ℕ) → [] ≡ k ∷ ks → X
+none_first k ks e = let no : ⊥ = cc in absurd no
+
+pub stays_at : (t : Tree) (l : Leg) → Step t l t → position_of t l ≡ [] → ItselfAt t l t
+stays_at t l (inl s) e = s
+stays_at t l (inr (k, s)) e = none_first k [] (sym e ∙ s.position)
+
+first_of : List ℕ → ℕ
+first_of [] = 0
+first_of (k ∷ ks) = k
+
+pub enters_at : (t : Tree) (l : Leg) (v : Tree) (k : ℕ) → Step t l v → position_of t l ≡ k ∷ [] → Enters t l v k
+unfolding first_of
+enters_at t l v k (inl s) e = none_first k [] (sym s.0 ∙ e)
+enters_at t l v k (inr (j, s)) e = subst (Enters t l v) (ap first_of (sym s.position ∙ e)) s
 
 -- ---- legs
 

@@ -1,5 +1,5 @@
--- A removal by one path: what its legs take out, how the tree differs then, and what is stored for it.
-use Rattle.std.proofs.Common.{◌≡◌, ℕ, zero, suc, ◌≤◌, ◌<◌, max, Bool, true, false, true≢false, List, [], ◌∷◌, length, slice_get, Option, Some, None, is_some, option_map, option_and_then, unwrap_or, refl, sym, ap, subst, ◌∙◌, arith, cond, inl, inr}
+-- A removal by one path: what its legs take out, how the tree is lighter then, and what is stored for it.
+use Rattle.std.proofs.Common.{◌≡◌, ℕ, zero, suc, ◌≤◌, ◌<◌, max, Bool, true, false, true≢false, List, [], ◌∷◌, length, slice_get, Option, Some, None, is_some, option_map, option_and_then, unwrap_or, refl, sym, ap, ap₂, subst, ◌∙◌, arith, cond}
 use Rattle.tree_model.specs.Tree.{Tree, null, boolean, number, text, array, object, Trees, no_trees, tree, tree_list, Members, no_members, member, without, depth, trees_depth, members_depth, IsTree}
 use Rattle.tree_model.specs.Path.{Leg, key, cell, last, Path, from_end, child as tree_child, with_child}
 use Rattle.tree_model.specs.Same.{same_tree}
@@ -9,16 +9,17 @@ use Rattle.tree_model.proofs.SameLemmas.{tree_equal, tree_itself}
 use Rattle.binary_model.specs.Layout as layout
 use Rattle.binary_model.specs.Stands.{IsValue, Stands}
 use Rattle.binary_model.specs.Canonical.{canonical_length}
-use Rattle.binary_model.specs.Change.{position_of, positions, at_holder, runs, removed_by, without_value, finished, Same, Parts}
-use Rattle.binary_model.proofs.StandLemmas.{values}
+use Rattle.binary_model.specs.Change.{positions, at_holder, runs, removed_by, without_value, finished, Same, Parts}
 use Rattle.binary_model.proofs.RefitLemmas.{nth}
 use Rattle.binary_model.proofs.KidsLemmas.{kids, with_kid}
 use Rattle.binary_model.proofs.RemoveLemmas.{without_element, without_nth_member, without_kid}
-use Rattle.binary_model.proofs.PositionLemmas.{Itself as ItselfAt, Enters, Step, leg_step, step_is}
+use Rattle.binary_model.proofs.PositionLemmas.{leg_step, step_is}
 use Rattle.json_binary.specs.declared.place.Spot.{Spot}
 use Rattle.json_binary.specs.declared.place.Container.{Container}
 use Rattle.json_binary.specs.Place.{container_of, spot_of}
+use Rattle.json_patch.specs.Stand.{HasValues}
 use Rattle.json_patch.specs.View.{runs_of}
+use Rattle.json_patch.specs.Touched.{weight}
 use Rattle.json_patch.specs.Draft.{taking}
 use Rattle.json_patch.specs.Led.{IsEntered, IsLed, Taken, IsTaken}
 use Rattle.json_patch.specs.Single.{IsPlanOf}
@@ -28,42 +29,11 @@ use Rattle.json_patch.specs.declared.place.Place.TheVariants.{Root, Inside}
 use Rattle.json_patch.specs.declared.place.Entered.TheVariants.{Nothing, Itself, Value}
 use Rattle.json_patch.specs.declared.parts.Parts.{Parts as Changed}
 use Rattle.json_patch.specs.declared.planning.Planned.TheVariants as planned
-use Rattle.json_patch.proofs.PlaceLemmas.{found_at, below_count, led_itself, led_value}
-use Rattle.json_patch.proofs.SingleLemmas.{kid_with, kid_deep, below_deep, led_inside, step_same, step_other}
+use Rattle.json_patch.proofs.PlaceLemmas.{found_at, below_count, stays_at, enters_at, led_itself, led_value}
+use Rattle.json_patch.proofs.WeightLemmas.{kid_lighter, kid_out_lighter}
+use Rattle.json_patch.proofs.SingleLemmas.{kid_deep, below_deep, led_inside, step_same, step_other}
 
--- ---- without one of its values a tree is another one, and no deeper
-
-other_tree : (t u : Tree) → (t ≡ u → ⊥) → same_tree t u ≡ false
-other_tree t u never = go (same_tree t u) refl
-  where
-    go : (b : Bool) → same_tree t u ≡ b → same_tree t u ≡ false
-    go true e = absurd (never (tree_equal t u e))
-    go false e = e
-
-fewer : (ts : Trees) (n : ℕ) → n < length (tree_list ts) → suc (length (tree_list (without_element ts n))) ≡ length (tree_list ts)
-fewer no_trees n low = absurd (omega (arith, low))
-fewer (tree t ts) zero low = refl
-fewer (tree t ts) (suc n) low = ap suc (fewer ts n (omega (arith, low)))
-
-fewer_members : (ms : Members) (n : ℕ) → n < length (tree_list (values ms)) → suc (length (tree_list (values (without_nth_member ms n)))) ≡ length (tree_list (values ms))
-fewer_members no_members n low = absurd (omega (arith, low))
-fewer_members (member k t ms) zero low = refl
-fewer_members (member k t ms) (suc n) low = ap suc (fewer_members ms n (omega (arith, low)))
-
-fewer_kids : (t : Tree) (n : ℕ) → n < length (tree_list (kids t)) → suc (length (tree_list (kids (without_kid t n)))) ≡ length (tree_list (kids t))
-fewer_kids null n low = absurd (omega (arith, low))
-fewer_kids (boolean b) n low = absurd (omega (arith, low))
-fewer_kids (number z) n low = absurd (omega (arith, low))
-fewer_kids (text x) n low = absurd (omega (arith, low))
-fewer_kids (array ts) n low = fewer ts n low
-fewer_kids (object ms) n low = fewer_members ms n low
-
-kid_out : (t : Tree) (n : ℕ) → n < length (tree_list (kids t)) → same_tree t (without_kid t n) ≡ false
-kid_out t n low = other_tree t (without_kid t n) (λ e. let one = fewer_kids t n low in let same : length (tree_list (kids t)) ≡ length (tree_list (kids (without_kid t n))) = ap (λ u. length (tree_list (kids u))) e in omega (arith, one, same))
-
-kid_other : (t : Tree) (n : ℕ) (v w : Tree) → n < length (tree_list (kids t)) → nth (kids t) n ≡ v → same_tree v w ≡ false → same_tree t (with_kid t n w) ≡ false
-kid_other t n v w low found apart = other_tree t (with_kid t n w)
-    (λ e. let same : v ≡ w = sym found ∙ ap (λ u. nth (kids u) n) e ∙ kid_with t n w low in true≢false (sym (tree_itself v) ∙ ap (same_tree v) same ∙ apart))
+-- ---- without one of its values a tree is no deeper
 
 elements_out_deep : (ts : Trees) (n : ℕ) → trees_depth (without_element ts n) ≤ trees_depth ts
 elements_out_deep no_trees n = omega arith
@@ -111,22 +81,6 @@ nothing_out (object ms) (key k) e = ap (λ o. cond (is_some o) (Some (object (wi
 nothing_out (object ms) (cell n) e = refl
 nothing_out (object ms) (last n) e = refl
 
-none_first : {X : Type 0} (k : ℕ) (ks : List ℕ) → [] ≡ k ∷ ks → X
-none_first k ks e = let no : ⊥ = cc in absurd no
-
-stays_at : (t : Tree) (l : Leg) → Step t l t → position_of t l ≡ [] → ItselfAt t l t
-stays_at t l (inl s) e = s
-stays_at t l (inr (k, s)) e = none_first k [] (sym e ∙ s.position)
-
-first_of : List ℕ → ℕ
-first_of [] = 0
-first_of (k ∷ ks) = k
-
-enters_at : (t : Tree) (l : Leg) (v : Tree) (k : ℕ) → Step t l v → position_of t l ≡ k ∷ [] → Enters t l v k
-unfolding first_of
-enters_at t l v k (inl s) e = none_first k [] (sym s.0 ∙ e)
-enters_at t l v k (inr (j, s)) e = subst (Enters t l v) (ap first_of (sym s.position ∙ e)) s
-
 -- ---- what legs take out
 
 pub nothing_taken : (bytes : List ℕ) (t : Tree) (s : layout.Spot) (l : Leg) (ls : Path) → IsEntered bytes s t l Nothing → IsTaken bytes s t (l ∷ ls) None
@@ -141,7 +95,7 @@ itself_taken bytes t s l (m ∷ ls) (Some found) is e h = record {
   led = led_itself bytes t s l (m ∷ ls) Root (Some (Inside found.0 found.1)) e h.led;
   other = h.other;
   out = ap (λ o. option_map (with_child t l) (option_and_then (at_parent taken_out m ls) o)) e.0 ∙ ap (option_map (with_child t l)) h.out ∙ ap Some ((stays_at t l (leg_step t l t is e.0) e.1).2 h.other);
-  apart = h.apart;
+  lighter = h.lighter;
   shallow = h.shallow;
 }
 
@@ -156,7 +110,7 @@ last_taken bytes t s l c k u is e =
       led = led_value bytes t s l [] Root c k u (Some (Inside c k)) e (λ v is h. refl) is;
       other = without_kid t k;
       out = n.out;
-      apart = kid_out t k n.low;
+      lighter = kid_out_lighter t k n.low;
       shallow = kid_out_deep t k;
     }
 
@@ -177,7 +131,7 @@ value_taken bytes t s l m ls c k u (Some found) is e h =
       led = led_value bytes t s l (m ∷ ls) Root c k u (Some (Inside found.0 found.1)) e (λ v is stands. led_from bytes (spot_of u) (Inside c k) (positions (m ∷ ls) v) found.0 found.1 (h v is stands).led) is;
       other = with_kid t k below.other;
       out = ap (λ o. option_map (with_child t l) (option_and_then (at_parent taken_out m ls) o)) at ∙ ap (option_map (with_child t l)) below.out ∙ ap Some (n.set below.other);
-      apart = kid_other t k v below.other n.low n.found below.apart;
+      lighter = kid_lighter t k v below.other n.low n.found below.lighter;
       shallow = kid_other_deep t k v below.other n.low n.found below.shallow;
     }
 
@@ -190,6 +144,12 @@ pub none_taken : (bytes : List ℕ) (t : Tree) (s : layout.Spot) (ls : Path) (fo
 none_taken bytes t s ls None never h = h
 none_taken bytes t s ls (Some f) never h = absurd (never f refl)
 
+pub taken_stands : (bytes : List ℕ) (t : Tree) (s : layout.Spot) (ls : Path) (found : Option (Container × ℕ)) (c : Container) (k : ℕ) → found ≡ Some (c, k) → IsTaken bytes s t ls found → HasValues bytes c × (k < layout.count bytes (container_of c))
+taken_stands bytes t s ls found c k e h =
+    let taken : Taken bytes s t ls c k = subst (IsTaken bytes s t ls) e h in
+    let place = led_inside bytes s (positions ls t) c k taken.led in
+    (place.3.0, place.3.1)
+
 -- ---- the plan of one removal
 
 pub kept_plan : (bytes : List ℕ) (t : Tree) (path : Path) → try_remove path t ≡ None → IsPlanOf bytes t (model.Remove (path ∷ [])) planned.Same
@@ -199,16 +159,29 @@ kept_plan bytes t path none =
     let is : finished bytes t (removed_by path (record { «tree» = t; edited = Some bytes })) ≡ Same = ap (finished bytes t) (step_same (taking path t) (remove path t) (record { «tree» = t; edited = Some bytes }) same) ∙ rw (tree_itself t) refl in
     subst (λ c. IsStored c (depth (remove path t)) (canonical_length (remove path t)) planned.Same) (sym is) tt
 
+-- a lighter tree is another one
+pub lighter_apart : (t u : Tree) → weight u < weight t → same_tree t u ≡ false
+lighter_apart t u less = by_same (same_tree t u) refl
+  where
+    by_same : (b : Bool) → same_tree t u ≡ b → same_tree t u ≡ false
+    by_same true e = let same : weight t ≡ weight u = ap weight (tree_equal t u e) in absurd (omega (arith, less, same))
+    by_same false e = e
+
+-- what a removal that takes a value out leaves
+pub removed_to : (bytes : List ℕ) (t : Tree) (path : Path) (c : Container) (k : ℕ) (new : List ℕ) → (h : Taken bytes (layout.root bytes) t path c k) → without_value bytes (container_of c) k ≡ Some new
+    → removed_by path (record { «tree» = t; edited = Some bytes }) ≡ record { «tree» = h.other; edited = Some new }
+removed_to bytes t path c k new h made =
+    let gone : remove path t ≡ h.other = ap (λ o. unwrap_or o t) h.out in
+    let apart : same_tree t (remove path t) ≡ false = ap (same_tree t) gone ∙ lighter_apart t h.other h.lighter in
+    let place = led_inside bytes (layout.root bytes) (positions path t) c k h.led in
+    let taken : taking path t bytes ≡ Some new = ap (option_and_then (at_holder bytes (without_value bytes) (layout.root bytes))) place.2 ∙ place.3.2 (without_value bytes) ∙ made in
+    step_other (taking path t) (remove path t) (record { «tree» = t; edited = Some bytes }) apart ∙ ap₂ (λ u o. record { «tree» = u; edited = o }) gone taken
+
 pub removed_plan : (bytes : List ℕ) (t : Tree) (path : Path) (c : Container) (k : ℕ) (new : List ℕ) (parts : Changed) → Stands bytes t → Taken bytes (layout.root bytes) t path c k → without_value bytes (container_of c) k ≡ Some new
     → runs_of parts ≡ runs bytes new → IsPlanOf bytes t (model.Remove (path ∷ [])) (planned.Parts parts)
 removed_plan bytes t path c k new parts stands h made runs_are =
-    let gone : remove path t ≡ h.other = ap (λ o. unwrap_or o t) h.out in
-    let apart : same_tree t (remove path t) ≡ false = ap (same_tree t) gone ∙ h.apart in
-    let place = led_inside bytes (layout.root bytes) (positions path t) c k h.led in
-    let taken : taking path t bytes ≡ Some new = ap (option_and_then (at_holder bytes (without_value bytes) (layout.root bytes))) place.2 ∙ place.3.2 (without_value bytes) ∙ made in
-    let stepped = step_other (taking path t) (remove path t) (record { «tree» = t; edited = Some bytes }) apart in
-    let is : finished bytes t (removed_by path (record { «tree» = t; edited = Some bytes })) ≡ Parts (runs bytes new) = ap (finished bytes t) (stepped ∙ ap (λ o. record { «tree» = remove path t; edited = o }) taken) ∙ rw apart refl in
+    let is : finished bytes t (removed_by path (record { «tree» = t; edited = Some bytes })) ≡ Parts (runs bytes new) = ap (finished bytes t) (removed_to bytes t path c k new h made) ∙ rw (lighter_apart t h.other h.lighter) refl in
     let low = h.shallow in
     let nested = stands.nested in
-    let same : depth (remove path t) ≡ depth h.other = ap depth gone in
+    let same : depth (remove path t) ≡ depth h.other = ap (λ o. depth (unwrap_or o t)) h.out in
     subst (λ c. IsStored c (depth (remove path t)) (canonical_length (remove path t)) (planned.Parts parts)) (sym is) (omega (arith, low, nested, same), runs_are)

@@ -37,7 +37,7 @@ abbrev pub value_at : List ℕ → Tree → Tree
 value_at [] t = t
 value_at (k ∷ ks) t = value_at ks (nth (kids t) k)
 
-none_some : {X : Type 0} (x : X) → None ≡ Some x → ⊥
+pub none_some : {X : Type 0} (x : X) → None ≡ Some x → ⊥
 none_some x e = true≢false (sym (ap is_some e))
 
 -- ---- it leaves its tree equal exactly where the value is equal
@@ -86,7 +86,7 @@ put_itself : (ks : List ℕ) (t : Tree) → Reaches ks t → put_at ks (value_at
 put_itself [] t r = refl
 put_itself (k ∷ ks) t r = ap (with_kid t k) (put_itself ks (nth (kids t) k) r.1) ∙ with_itself t k r.0
 
-by_equal : (a b : Bool) → (a ≡ true → b ≡ true) → (b ≡ true → a ≡ true) → a ≡ b
+pub by_equal : (a b : Bool) → (a ≡ true → b ≡ true) → (b ≡ true → a ≡ true) → a ≡ b
 by_equal true true f g = refl
 by_equal true false f g = sym (f refl)
 by_equal false true f g = g refl
@@ -299,13 +299,11 @@ pub record Place (bytes : List ℕ) (t : Tree) (path : Path) (c : Container) (k 
   pub acts : (act : layout.Container → ℕ → Option (List ℕ)) → at_holder bytes act (layout.root bytes) (first ∷ others) ≡ act (container_of c) k
   pub reaches : Reaches (first ∷ others) t
   pub there : IsValue bytes (value_at (first ∷ others) t) (layout.child bytes (container_of c) k)
-  pub is : IsTree (value_at (first ∷ others) t)
-  pub shallow : depth (value_at (first ∷ others) t) ≤ 100
 
-pub place_found : (bytes : List ℕ) (t : Tree) (path : Path) (s : layout.Spot) (c : Container) (k : ℕ) → Stands bytes t → s ≡ layout.root bytes → IsLed bytes s Root (positions path t) (Some (Inside c k)) → Place bytes t path c k
-place_found bytes t path s c k stands root led =
+pub place_found : (bytes : List ℕ) (t : Tree) (path : Path) (s : layout.Spot) (c : Container) (k : ℕ) → IsTree t → IsValue bytes t (layout.root bytes) → s ≡ layout.root bytes → IsLed bytes s Root (positions path t) (Some (Inside c k)) → Place bytes t path c k
+place_found bytes t path s c k is value root led =
     let found = led_inside bytes (layout.root bytes) (positions path t) c k (subst (λ s. IsLed bytes s Root (positions path t) (Some (Inside c k))) root led) in
-    let reach = (set_positions path null t (found.0 ∷ found.1) stands.«tree» found.2).1 in
+    let reach = (set_positions path null t (found.0 ∷ found.1) is found.2).1 in
     record {
       first = found.0;
       others = found.1;
@@ -314,9 +312,7 @@ place_found bytes t path s c k stands root led =
       low = found.3.1;
       acts = found.3.2;
       reaches = reach;
-      there = stands_there found.1 found.0 bytes t (layout.root bytes) (container_of c) k stands.value reach found.3.2;
-      is = at_tree (found.0 ∷ found.1) t stands.«tree»;
-      shallow = at_shallow (found.0 ∷ found.1) t 100 reach stands.nested;
+      there = stands_there found.1 found.0 bytes t (layout.root bytes) (container_of c) k value reach found.3.2;
     }
 
 -- ---- the plan of one pair

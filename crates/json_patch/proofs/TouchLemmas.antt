@@ -1,7 +1,7 @@
 -- Runs found from the left, place by place, while writes are made behind all that were made.
 use Rattle.std.proofs.Common.{◌≡◌, ◌≢◌, ◌≤◌, ◌<◌, ◌-◌, ◌^◌, min, ℕ, zero, suc, ◌+◌, Bool, true, false, ◌==◌, List, [], ◌∷◌, ◌++◌, length, map, take, drop, set, slice_index, get_or, refl, sym, ap, ap₂, subst, ◌∙◌, arith, cond}
 use Rattle.std.proofs.Math.Seq.{take-append_seam, drop-append-add, drop-append_seam, take-length}
-use Rattle.std.proofs.lemmas.List.{length-append, length-take-le, append_assoc, take-append-drop, drop-drop, take_more, take_more_set, drop_more, length-set, map-append, get_or_default}
+use Rattle.std.proofs.lemmas.List.{length-append, length-take-le, append_assoc, take-append-drop, drop-drop, take_more, take_more_set, drop_more, length-set, map-append}
 use Rattle.std.proofs.lemmas.Bool.{eq-eqb, ne_eqb, eqb-true, eqb-false}
 use Rattle.binary_model.specs.Change.{Run, grown, runs_from, runs, written}
 use Rattle.binary_model.proofs.WrittenLemmas.{written_length}
@@ -111,7 +111,7 @@ pub written_rest : (new : List ℕ) (at : ℕ) (xs : List ℕ) → at ≤ length
 written_rest new at xs low =
     ap₂ drop (sym (parts_length new at xs low)) (written_parts new at xs) ∙ drop-append_seam (take at new ++ xs) (drop (at + length xs) new)
 
-written_seam : (pre bs new : List ℕ) → written (pre ++ bs) (length pre) new ≡ pre ++ (new ++ drop (length new) bs)
+pub written_seam : (pre bs new : List ℕ) → written (pre ++ bs) (length pre) new ≡ pre ++ (new ++ drop (length new) bs)
 unfolding written
 written_seam pre bs new = rw (take-append_seam pre bs, drop-append-add pre bs (length new)) refl
 
@@ -153,18 +153,14 @@ module _ (bytes new ws : List ℕ) (at k : ℕ) (inside : at + length ws ≤ len
       ∙ one_more 0 bytes (begun k) (at + k) y (omega (arith, inside, low)) (long ∙ size) rest
       ∙ ap (λ n. cond (slice_index bytes (at + k) == y) (runs bytes (begun k)) (lengthened n (slice_index bytes (at + k)) y (runs bytes (begun k)))) zero_on
 
-  pub place_same : (y : ℕ) (rs : List Run) → y ≡ get_or ws k y → slice_index bytes (at + k) ≡ y → rs ≡ runs bytes (begun k) → rs ≡ runs bytes (begun (k + 1))
-  place_same y rs here e found =
-      let same_so = e ∙ here ∙ get_or_default ws k y 0 low in
-      found ∙ sym (next_byte ∙ ap (λ b. cond b (runs bytes (begun k)) (lengthened (at + k) (slice_index bytes (at + k)) (slice_index ws k) (runs bytes (begun k)))) (eq-eqb _ _ same_so))
+  pub place_same : (rs : List Run) → slice_index bytes (at + k) ≡ slice_index ws k → rs ≡ runs bytes (begun k) → rs ≡ runs bytes (begun (k + 1))
+  place_same rs e found =
+      found ∙ sym (next_byte ∙ ap (λ b. cond b (runs bytes (begun k)) (lengthened (at + k) (slice_index bytes (at + k)) (slice_index ws k) (runs bytes (begun k)))) (eq-eqb _ _ e))
 
-  pub place_differs : (y : ℕ) (rs more : List Run) → y ≡ get_or ws k y → slice_index bytes (at + k) ≢ y → rs ≡ runs bytes (begun k) → more ≡ lengthened (at + k) (slice_index bytes (at + k)) y rs
-      → more ≡ runs bytes (begun (k + 1))
-  place_differs y rs more here e found grows =
-      let y_is = here ∙ get_or_default ws k y 0 low in
-      let apart : slice_index bytes (at + k) ≢ slice_index ws k = λ h. e (h ∙ sym y_is) in
-      grows ∙ ap₂ (lengthened (at + k) (slice_index bytes (at + k))) y_is found
-      ∙ sym (next_byte ∙ ap (λ b. cond b (runs bytes (begun k)) (lengthened (at + k) (slice_index bytes (at + k)) (slice_index ws k) (runs bytes (begun k)))) (ne_eqb _ _ apart))
+  pub place_differs : (rs more : List Run) → slice_index bytes (at + k) ≢ slice_index ws k → rs ≡ runs bytes (begun k) → more ≡ lengthened (at + k) (slice_index bytes (at + k)) (slice_index ws k) rs → more ≡ runs bytes (begun (k + 1))
+  place_differs rs more e found grows =
+      grows ∙ ap (lengthened (at + k) (slice_index bytes (at + k)) (slice_index ws k)) found
+      ∙ sym (next_byte ∙ ap (λ b. cond b (runs bytes (begun k)) (lengthened (at + k) (slice_index bytes (at + k)) (slice_index ws k) (runs bytes (begun k)))) (ne_eqb _ _ e))
 
 -- ---- a run grows behind others
 
@@ -226,6 +222,10 @@ added_first at x y (p ∷ items) q none is = let no : ⊥ = omega (arith, none) 
 
 -- ---- write by write
 
+-- the runs behind bytes written at a place, in each version that has the old bytes from there on
+abbrev pub AddsBytes : List ℕ → ℕ → List Run → List Run → List ℕ → Type 0
+AddsBytes bytes at rs more xs = (new : List ℕ) → length new ≡ length bytes → drop at new ≡ drop at bytes → rs ≡ runs bytes new → more ≡ runs bytes (written new at xs)
+
 -- the runs so far are those of the bytes so far, and what is left is behind all that were written
 pub record Touched (bytes wanted : List ℕ) (left : List Write) (rs : List Run) : Type 0 where
   pub so_far : List ℕ
@@ -241,8 +241,7 @@ pub touched_none : (bytes : List ℕ) (ws : List Write) → AreInside (length by
 touched_none bytes ws inside rising = record { so_far = bytes; low = 0; size = refl; behind = refl; found = sym (no_runs 0 bytes); rising = rising; inside = inside; whole = refl }
 
 pub touched_more : (bytes wanted : List ℕ) (w : Write) (left : List Write) (rs more : List Run) → Touched bytes wanted (w ∷ left) rs
-    → ((new : List ℕ) → length new ≡ length bytes → drop w.at new ≡ drop w.at bytes → rs ≡ runs bytes new → more ≡ runs bytes (written new w.at w.bytes.items))
-    → Touched bytes wanted left more
+    → AddsBytes bytes w.at rs more w.bytes.items → Touched bytes wanted left more
 touched_more bytes wanted w left rs more h f =
     let up = h.rising.0 in
     let n = w.at - h.low in

@@ -3,19 +3,22 @@
 --     IsEntered      what one leg enters
 --     IsLed      the place that legs lead to, by the positions that they enter
 --     IsTaken      the value that legs take out of its container
-use Rattle.std.specs.Prelude.{◌≡◌, ◌≤◌, ◌<◌, ℕ, true, false, List, [], ◌∷◌, length, map, Option, Some, None}
+--     Adds      whether setting by legs that find nothing adds a value
+--     IsAt      the value that positions lead to
+use Rattle.std.specs.Prelude.{◌≡◌, ◌≤◌, ◌<◌, ℕ, Bool, true, false, List, [], ◌∷◌, length, map, Option, Some, None}
 use Rattle.tree_model.specs.Tree.{Tree, Members, member_list, get, depth, AreMembers}
 use Rattle.tree_model.specs.Path.{Leg, Path, key, child}
-use Rattle.tree_model.specs.Same.{same_tree}
-use Rattle.tree_model.specs.Edit.{try_remove}
+use Rattle.tree_model.specs.Edit.{try_set, try_remove}
 use Rattle.binary_model.specs.Layout as layout
 use Rattle.binary_model.specs.Layout.{count, key_of}
 use Rattle.binary_model.specs.Stands.{IsValue, AreKeys}
 use Rattle.json_edit.specs.Places.{place_in}
 use Rattle.binary_model.specs.Change.{position_of, positions, at_holder}
 use Rattle.json_binary.specs.declared.place.Container.{Container}
+use Rattle.json_binary.specs.declared.place.Spot.{Spot}
 use Rattle.json_binary.specs.Place.{container_of, spot_of, IsInside}
 use Rattle.json_patch.specs.Stand.{HasValues}
+use Rattle.json_patch.specs.Touched.{weight}
 use Rattle.json_patch.specs.declared.place.Place.{Place}
 use Rattle.json_patch.specs.declared.place.Place.TheVariants.{Root, Inside}
 use Rattle.json_patch.specs.declared.place.Entered.{Entered}
@@ -64,14 +67,25 @@ abbrev pub IsLed : List ℕ → layout.Spot → Place → Option (List ℕ) → 
 IsLed bytes s place None result = result ≡ None
 IsLed bytes s place (Some ks) result = IsLedTo bytes s place ks result
 
--- the path takes a container's k-th value out of the tree, which is another one then and no deeper
+-- the path takes a container's k-th value out of the tree, which is lighter then and no deeper
 pub record Taken (bytes : List ℕ) (s : layout.Spot) (t : Tree) (path : Path) (c : Container) (k : ℕ) : Type 0 where
   pub led : IsLed bytes s Root (positions path t) (Some (Inside c k))
   pub other : Tree
   pub out : try_remove path t ≡ Some other
-  pub apart : same_tree t other ≡ false
+  pub lighter : weight other < weight t
   pub shallow : depth other ≤ depth t
 
 abbrev pub IsTaken : List ℕ → layout.Spot → Tree → Path → Option (Container × ℕ) → Type 0
 IsTaken bytes s t path None = try_remove path t ≡ None
 IsTaken bytes s t path (Some found) = Taken bytes s t path found.0 found.1
+
+-- the path finds nothing; setting by it makes a heavier tree of each value, or leaves the tree
+abbrev pub Adds : Path → Tree → Bool → Type 0
+Adds path t true = (u : Tree) → (w : Tree) × (try_set path u t ≡ Some w) × (weight t < weight w)
+Adds path t false = (u : Tree) → try_set path u t ≡ None
+
+-- a tree that positions lead to stands at the spot
+abbrev pub IsAt : List ℕ → Option Tree → Option Spot → Type 0
+IsAt bytes None None = Unit {0}
+IsAt bytes (Some v) (Some s) = IsValue bytes v (spot_of s)
+IsAt bytes found spot = ⊥

@@ -1,7 +1,10 @@
 pub mod View
 pub mod Stand
 pub mod Writes
+pub mod Spans
+pub mod Touched
 pub mod Led
 pub mod Draft
 pub mod Answer
 pub mod Single
+pub mod Removal

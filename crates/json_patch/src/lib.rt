@@ -7,11 +7,14 @@ mod parts;
 mod place;
 mod planning;
 mod removal;
+mod restored;
 mod room;
 mod single;
+mod spans;
 #[cfg(test)]
 mod tests;
 mod touched;
+mod trail;
 mod trees;
 mod writes;
 

@@ -1,6 +1,6 @@
-//! Runs of differing places: found between two versions of a document, made and taken back.
-ghost use Rattle.std.specs.Prelude.{◌≡◌, ◌≢◌, ◌<◌, ◌≤◌, ◌+◌, ◌^◌, ◌∷◌, ◌++◌, ◌==◌, ℕ, List, [], length, drop, map, slice_index, slice_range, IfOk, OnOk};
-ghost use Rattle.binary_model.specs.Change.{put_all, put_back, runs, runs_from, written, differing};
+//! Runs of places at which two versions of a document differ, made and taken back.
+ghost use Rattle.std.specs.Prelude.{◌≡◌, ◌<◌, ◌≤◌, ◌+◌, ◌∷◌, ◌++◌, ◌==◌, ℕ, List, [], length, map, IfOk, OnOk};
+ghost use Rattle.binary_model.specs.Change.{put_all, put_back, runs, written, differing};
 ghost use Rattle.json_patch.specs.View.{run_of, runs_of, AreWithin};
 
 use smallvec::SmallVec;
@@ -121,58 +121,4 @@ pub fn put(bytes: &mut [u8], at: usize, new: &[u8])
     ensures { bytes.new ≡ written bytes.old at new.now }
 {
     bytes[at..at + new.len()].copy_from_slice(new);
-}
-
-/// The maximal runs of places at which two versions of a document differ.
-pub fn runs_between(alloc: Global, old: &[u8], new: &[u8]) -> Result<Parts, AllocError>
-    requires same { length old.now ≡ length new.now }
-    requires small { length old.now ≤ 16777216 }
-    ensures { IfOk result (λ parts. runs_of parts ≡ runs old.now new.now) }
-{
-    let mut patches = Vec::new(alloc);
-    let mut at = same_until(old, new, 0);
-    while at < old.len() {
-        let end = differ_until(old, new, at);
-        let patch = Patch {
-            at: at as u32,
-            before: SmallVec::from_slice(alloc, &old[at..end])?,
-            after: SmallVec::from_slice(alloc, &new[at..end])?,
-        };
-        patches.push(patch)?;
-        at = same_until(old, new, end);
-    }
-    Ok(Parts { patches })
-}
-
-// The first place from one on at which the bytes differ, or their end.
-fn same_until(old: &[u8], new: &[u8], from: usize) -> usize
-    requires same { length old.now ≡ length new.now }
-    requires within { from ≤ length old.now }
-    ensures runs { runs_from from (drop from old.now) (drop from new.now)
-        ≡ runs_from result (drop result old.now) (drop result new.now) }
-    ensures bounds { (from ≤ result) × (result ≤ length old.now) }
-    ensures differs { result < length old.now → slice_index old.now result ≢ slice_index new.now result }
-{
-    let mut at = from;
-    while at < old.len() && old[at] == new[at] {
-        at += 1;
-    }
-    at
-}
-
-// The end of the run of differing places from one on.
-fn differ_until(old: &[u8], new: &[u8], from: usize) -> usize
-    requires same { length old.now ≡ length new.now }
-    requires within { from < length old.now }
-    requires differs { slice_index old.now from ≢ slice_index new.now from }
-    ensures run { runs_from from (drop from old.now) (drop from new.now)
-        ≡ record { at = from; before = slice_range old.now from result; after = slice_range new.now from result }
-        ∷ runs_from result (drop result old.now) (drop result new.now) }
-    ensures bounds { (from < result) × (result ≤ length old.now) }
-{
-    let mut at = from + 1;
-    while at < old.len() && old[at] != new[at] {
-        at += 1;
-    }
-    at
 }

@@ -1,12 +1,13 @@
 //! Where a path leads in a document's bytes.
-ghost use Rattle.std.specs.Prelude.{◌≡◌, ◌≤◌, ◌<◌, ◌+◌, ℕ, length, map, IfSome};
+ghost use Rattle.std.specs.Prelude.{◌≡◌, ◌≤◌, ◌<◌, ◌+◌, ℕ, [], ◌∷◌, length, map, None, IfSome};
 ghost use Rattle.tree_model.specs.Tree.{Tree, IsTree};
+ghost use Rattle.tree_model.specs.Path as path;
 ghost use Rattle.binary_model.specs.Layout as layout;
 ghost use Rattle.binary_model.specs.Stands.{IsValue};
 ghost use Rattle.binary_model.specs.Change.{positions};
 ghost use Rattle.json_path.specs.View.{leg_of};
 ghost use Rattle.json_binary.specs.Place.{container_of, spot_of, IsFramed, IsInside};
-ghost use Rattle.json_patch.specs.Led.{IsLed, IsTaken, IsEntered, IsNumber, EntersInside};
+ghost use Rattle.json_patch.specs.Led.{IsLed, IsTaken, IsEntered, IsNumber, EntersInside, Adds};
 
 use json_binary::{Container, Spot, child, container_in, member};
 use json_edit::{is_itself, place_in_list};
@@ -73,8 +74,47 @@ pub fn taken_from(bytes: &[u8], spot: Spot, legs: &[Leg]) -> Option<(Container, 
     }
 }
 
+/// Whether setting by legs adds a value where they find nothing: a member to an object, an element
+/// to a list, or one behind a value that isn't a list, which becomes one. A position from the end
+/// adds nothing.
+pub fn adds(bytes: &[u8], spot: Spot, legs: &[Leg]) -> bool
+    requires inside { IsInside bytes.now spot }
+    ensures { (t : Tree) → IsTree t → IsValue bytes.now t (spot_of spot) →
+        positions (map leg_of legs.now) t ≡ None → Adds (map leg_of legs.now) t result }
+{
+    let [leg, rest @ ..] = legs else {
+        return false;
+    };
+    match enter(bytes, spot, leg) {
+        Entered::Nothing => {
+            if !rest.is_empty() {
+                return false;
+            }
+            adds_at(bytes, spot, leg)
+        }
+        Entered::Itself => adds(bytes, spot, rest),
+        Entered::Value(_, _, inner) => adds(bytes, inner, rest),
+    }
+}
+
+/// Whether setting by one leg that finds nothing adds a value.
+fn adds_at(bytes: &[u8], spot: Spot, leg: &Leg) -> bool
+    requires inside { IsInside bytes.now spot }
+    ensures { (t : Tree) → IsValue bytes.now t (spot_of spot) → path.child t (leg_of leg.now) ≡ None →
+        Adds (leg_of leg.now ∷ []) t result }
+{
+    match leg {
+        Leg::Cell(_) => true,
+        Leg::Last(_) => false,
+        Leg::Member(_) => match container_in(bytes, spot) {
+            Some(container) => container.keyed,
+            None => false,
+        },
+    }
+}
+
 /// What a leg enters from a value.
-fn enter(bytes: &[u8], spot: Spot, leg: &Leg) -> Entered
+pub fn enter(bytes: &[u8], spot: Spot, leg: &Leg) -> Entered
     requires inside { IsInside bytes.now spot }
     ensures entered { (t : Tree) → IsTree t → IsValue bytes.now t (spot_of spot) →
         IsEntered bytes.now (spot_of spot) t (leg_of leg.now) result }

@@ -1,9 +1,9 @@
 //! The plan of an edit of one pair that is made in place, from the path and the value at its end alone.
-ghost use Rattle.std.specs.Prelude.{◌≡◌, ◌≤◌, ◌<◌, length, IfOk, IfSome};
-ghost use Rattle.tree_model.specs.Tree.{Tree};
+ghost use Rattle.std.specs.Prelude.{◌≡◌, ◌≤◌, ◌<◌, ◌+◌, length, false, IfOk, IfSome};
+ghost use Rattle.tree_model.specs.Tree.{Tree, depth};
 ghost use Rattle.tree_model.specs.Edit as model;
 ghost use Rattle.binary_model.specs.Stands.{Stands};
-ghost use Rattle.json_edit.specs.Edits.{edit_of};
+ghost use Rattle.json_tree.specs.View.{tree_of};
 ghost use Rattle.json_binary.specs.Usage.{IsDocument};
 ghost use Rattle.json_patch.specs.Single.{IsPlanOf, IsInPlace, IsEditBy};
 
@@ -11,23 +11,16 @@ use crate::place::{Place, place_from};
 use crate::planning::{MAX_NESTED, Planned};
 use crate::touched::runs_of_writes;
 use crate::writes::replacing;
-use json_binary::{child, decode_value, root};
-use json_edit::{Edit, Pair};
+use json_binary::{child, equals, root};
+use json_edit::Pair;
 use std::alloc::{AllocError, Global};
 
-/// The pair of an edit that sets or replaces by one pair alone.
-pub fn only_pair(edit: &Edit) -> Option<&Pair>
-    ensures { IfSome result (λ pair. IsEditBy pair.now (edit_of edit.now)) }
+/// Whether a pair's value might nest too deep at the end of its path.
+pub fn nests_over(pair: &Pair) -> bool
+    ensures { result ≡ false → length pair.now.path + depth (tree_of pair.now.value) ≤ 100 }
 {
-    let pairs = match edit {
-        Edit::Set(pairs) => pairs,
-        Edit::Replace(pairs) => pairs,
-        Edit::Remove(_) => return None,
-    };
-    match pairs.as_slice() {
-        [pair] => Some(pair),
-        _ => None,
-    }
+    let legs = pair.path.legs().len() as u32;
+    legs > MAX_NESTED || pair.value.depth() > MAX_NESTED - legs
 }
 
 /// The plan of an edit by one pair, where the value that its path finds is left equal or can be
@@ -41,17 +34,17 @@ pub fn plan_single(alloc: Global, bytes: &[u8], pair: &Pair) -> Result<Option<Pl
         (t : Tree) (e : model.Edit) → Stands bytes.now t → IsEditBy pair.now e → IsPlanOf bytes.now t e plan)) }
     ensures in_place { IfOk result (λ found. IfSome found IsInPlace) }
 {
-    let legs = pair.path.legs();
-    if legs.len() as u32 > MAX_NESTED || pair.value.depth() > MAX_NESTED - legs.len() as u32 {
+    if nests_over(pair) {
         return Ok(None);
     }
+    let legs = pair.path.legs();
     let Some(Place::Inside(container, k)) = place_from(bytes, root(bytes), Place::Root, legs) else {
         return Ok(None);
     };
     let Some(spot) = child(bytes, container, k) else {
         return Ok(None);
     };
-    if decode_value(alloc, bytes, spot)?.same(&pair.value) {
+    if equals(bytes, spot, &pair.value) {
         return Ok(Some(Planned::Same));
     }
     let Some(writes) = replacing(alloc, bytes, container, k, &pair.value)? else {

@@ -1,7 +1,8 @@
 //! Changes of stored documents, worked by hand from the rules of the format.
-ghost use Rattle.std.specs.Prelude.{IfOk, Ok};
+ghost use Rattle.std.specs.Prelude.{◌≤◌, length, IfOk, Ok};
 ghost use Rattle.tree_model.specs.Tree.{Tree};
 ghost use Rattle.json_edit.specs.Edits.{HasLeg};
+ghost use Rattle.json_binary.specs.Usage.{IsDocument};
 ghost use Rattle.json_patch.specs.Answer.{StaysInPlace};
 
 use crate::{Parts, PlanError, Planned, apply, plan, unapply};
@@ -76,23 +77,28 @@ fn stored(alloc: Global, text: &str) -> Result<Vec<u8>, Fail> {
     Ok(out)
 }
 
-// The plan of an edit of bytes that can be decoded.
-fn planned(alloc: Global, bytes: &[u8], edit: &Edit) -> Result<Planned, Fail>
-    ensures { IfOk result (λ plan. (t : Tree) × StaysInPlace bytes.now t (Ok plan)) }
+// Passes bytes that can be decoded and aren't too many.
+fn check_document(alloc: Global, bytes: &[u8]) -> Result<(), Fail>
+    ensures { IfOk result (λ done. IsDocument bytes.now × (length bytes.now ≤ 16777216)) }
 {
     decode(alloc, bytes)?;
     if bytes.len() > 16_777_216 {
         return Err(Fail::from("16,777,216 bytes at the most"));
     }
+    Ok(())
+}
+
+// The plan of an edit of bytes that can be decoded.
+fn planned(alloc: Global, bytes: &[u8], edit: &Edit) -> Result<Planned, Fail>
+    ensures { IfOk result (λ plan. (t : Tree) × StaysInPlace bytes.now t (Ok plan)) }
+{
+    check_document(alloc, bytes)?;
     Ok(plan(alloc, bytes, edit)?)
 }
 
 // Whether the edit of a document would nest too deep. Bytes that can't be decoded are a failure.
 fn is_too_deep(alloc: Global, bytes: &[u8], edit: &Edit) -> Result<bool, Fail> {
-    decode(alloc, bytes)?;
-    if bytes.len() > 16_777_216 {
-        return Err(Fail::from("16,777,216 bytes at the most"));
-    }
+    check_document(alloc, bytes)?;
     match plan(alloc, bytes, edit) {
         Ok(_) => Ok(false),
         Err(PlanError::Deep) => Ok(true),
@@ -101,10 +107,7 @@ fn is_too_deep(alloc: Global, bytes: &[u8], edit: &Edit) -> Result<bool, Fail> {
 }
 
 fn used_length(alloc: Global, bytes: &[u8]) -> Result<u32, Fail> {
-    decode(alloc, bytes)?;
-    if bytes.len() > 16_777_216 {
-        return Err(Fail::from("16,777,216 bytes at the most"));
-    }
+    check_document(alloc, bytes)?;
     Ok(used(bytes))
 }
 
@@ -274,8 +277,14 @@ fn has_runs(parts: &Parts, runs: &[(u32, usize)]) -> bool {
 
 // Whether an edit is stored as is wanted, and leaves the document that is wanted.
 fn is_stored(alloc: Global, row: Row) -> Result<bool, Fail> {
-    let (text, verb, pairs, wanted, behind) = row;
-    let mut bytes = stored(alloc, text)?;
+    let bytes = stored(alloc, row.0)?;
+    is_stored_in(alloc, bytes, row)
+}
+
+// The same in bytes that stand for the document, and need not be its canonical encoding.
+fn is_stored_in(alloc: Global, bytes: Vec<u8>, row: Row) -> Result<bool, Fail> {
+    let (_, verb, pairs, wanted, behind) = row;
+    let mut bytes = bytes;
     let edit = edit_of(alloc, verb, pairs)?;
     match (planned(alloc, &bytes, &edit)?, wanted) {
         (Planned::Same, Wanted::Same) => {}
@@ -332,7 +341,7 @@ fn replace_acts_on_what_is_found(rt: HostRuntime) -> Result<(), Fail> {
 #[test]
 fn several_pairs_are_stored_as_one_change(rt: HostRuntime) -> Result<(), Fail> {
     // The number of `a` stands at 18, and the text of `b` at 29 to 34.
-    let cases: [Row; 5] = [
+    let cases: [Row; 7] = [
         (
             WORKED,
             Verb::Set,
@@ -354,13 +363,6 @@ fn several_pairs_are_stored_as_one_change(rt: HostRuntime) -> Result<(), Fail> {
             Wanted::Same,
             WORKED,
         ),
-        (
-            WORKED,
-            Verb::Replace,
-            &[("$.x", "1"), ("$.b", "\"ab\"")],
-            Wanted::Runs(&[(29, 3)]),
-            r#"{"a":1000,"b":"ab","c":"[1, 3, 5, 7]"}"#,
-        ),
         // The second value takes what the first one leaves of its room.
         (
             r#"{"a":1,"b":"xy","c":2,"d":"pqr"}"#,
@@ -368,6 +370,151 @@ fn several_pairs_are_stored_as_one_change(rt: HostRuntime) -> Result<(), Fail> {
             &[("$.b", "\"z\""), ("$.c", "\"\"")],
             Wanted::Runs(&[(27, 2), (37, 3)]),
             r#"{"a":1,"b":"z","c":"","d":"pqr"}"#,
+        ),
+        // `b` is inlined in between, and its room is found again behind the keys.
+        (
+            WORKED,
+            Verb::Set,
+            &[
+                ("$.b", "1"),
+                ("$.a", "5"),
+                ("$.b", "\"wxyz\""),
+                ("$.a", "1000"),
+            ],
+            Wanted::Same,
+            WORKED,
+        ),
+        (
+            WORKED,
+            Verb::Set,
+            &[("$.a", "5"), ("$.b", "\"ab\""), ("$.a", "1000")],
+            Wanted::Runs(&[(29, 3)]),
+            r#"{"a":1000,"b":"ab","c":"[1, 3, 5, 7]"}"#,
+        ),
+        (
+            WORKED,
+            Verb::Set,
+            &[("$", WORKED), ("$.b", "\"ab\"")],
+            Wanted::Runs(&[(29, 3)]),
+            r#"{"a":1000,"b":"ab","c":"[1, 3, 5, 7]"}"#,
+        ),
+    ];
+    for row in cases {
+        assert!(rt; is_stored(rt.alloc(), row)?, "{} to {}", row.0, row.4);
+    }
+    Ok(())
+}
+
+#[test]
+fn pairs_that_meet(rt: HostRuntime) -> Result<(), Fail> {
+    // The entry of `a` stands at 13, and the number of `b` at 30 within the object from 21 to 33.
+    let text = r#"{"a":{"b":1},"c":"xy"}"#;
+    let cases: [(&[(&str, &str)], Wanted, &str); 5] = [
+        (&[("$.a", r#"{"b":2}"#), ("$.a.b", "1")], Wanted::Same, text),
+        (&[("$.a.b", "2"), ("$.a", r#"{"b":1}"#)], Wanted::Same, text),
+        (
+            &[("$.a", r#"{"b":2}"#), ("$.a.b", "3")],
+            Wanted::Runs(&[(30, 1)]),
+            r#"{"a":{"b":3},"c":"xy"}"#,
+        ),
+        // The place in `a` is gone behind the second pair.
+        (
+            &[("$.a.b", "2"), ("$.a", "7")],
+            Wanted::Runs(&[(13, 2), (30, 1)]),
+            r#"{"a":7,"c":"xy"}"#,
+        ),
+        // The last pair would add a member to the object that the first one put.
+        (
+            &[("$.a", "{}"), ("$.c", "\"x\""), ("$.a.b", "1")],
+            Wanted::Full,
+            r#"{"a":{"b":1},"c":"x"}"#,
+        ),
+    ];
+    for (pairs, wanted, behind) in cases {
+        let row = (text, Verb::Set, pairs, wanted, behind);
+        assert!(rt; is_stored(rt.alloc(), row)?, "to {behind}");
+    }
+    Ok(())
+}
+
+#[test]
+fn a_place_that_leads_into_the_new_list(rt: HostRuntime) -> Result<(), Fail> {
+    let alloc = rt.alloc();
+    // The entry of `a` stands at 9. Behind it, from 13 to 24, was its text, and is now its room.
+    let mut bytes = stored(alloc, r#"{"a":"0123456789"}"#)?;
+    assert_eq!(rt; step(alloc, &mut bytes, "$.a", "5")?, 2);
+    // `$.a[0]` is 5 before and behind: first it is `a` itself, then the new list's element.
+    let row: Row = (
+        r#"{"a":5}"#,
+        Verb::Set,
+        &[("$.a[0]", "6"), ("$.a", "[5]")],
+        Wanted::Runs(&[(9, 2), (13, 7)]),
+        r#"{"a":[5]}"#,
+    );
+    assert!(rt; is_stored_in(alloc, bytes, row)?);
+    Ok(())
+}
+
+#[test]
+fn pairs_that_find_nothing(rt: HostRuntime) -> Result<(), Fail> {
+    // A pair that finds nothing adds nothing, but for the one where the change is full.
+    let cases: [Row; 8] = [
+        (
+            WORKED,
+            Verb::Set,
+            &[("$.x.y", "1"), ("$.b", "\"ab\"")],
+            Wanted::Runs(&[(29, 3)]),
+            r#"{"a":1000,"b":"ab","c":"[1, 3, 5, 7]"}"#,
+        ),
+        (
+            WORKED,
+            Verb::Set,
+            &[("$.a", "5"), ("$.a[last-5]", "1")],
+            Wanted::Runs(&[(18, 2)]),
+            r#"{"a":5,"b":"wxyz","c":"[1, 3, 5, 7]"}"#,
+        ),
+        // The number of the first element stands at 6.
+        (
+            "[1,2,3]",
+            Verb::Set,
+            &[("$[last-5]", "9"), ("$[0]", "7")],
+            Wanted::Runs(&[(6, 1)]),
+            "[7,2,3]",
+        ),
+        (
+            WORKED,
+            Verb::Replace,
+            &[("$.x", "1"), ("$.b", "\"ab\"")],
+            Wanted::Runs(&[(29, 3)]),
+            r#"{"a":1000,"b":"ab","c":"[1, 3, 5, 7]"}"#,
+        ),
+        (
+            WORKED,
+            Verb::Replace,
+            &[("$.a", "5"), ("$.a[1]", "6"), ("$.b", "\"ab\"")],
+            Wanted::Runs(&[(18, 2), (29, 3)]),
+            r#"{"a":5,"b":"ab","c":"[1, 3, 5, 7]"}"#,
+        ),
+        (
+            WORKED,
+            Verb::Set,
+            &[("$.a", "5"), ("$.a[1]", "6"), ("$.b", "\"ab\"")],
+            Wanted::Full,
+            r#"{"a":[5,6],"b":"ab","c":"[1, 3, 5, 7]"}"#,
+        ),
+        (
+            WORKED,
+            Verb::Replace,
+            &[("$.x", "1"), ("$.a[1]", "6"), ("$.b.c", "2")],
+            Wanted::Same,
+            WORKED,
+        ),
+        (
+            WORKED,
+            Verb::Set,
+            &[("$.x.y", "1"), ("$.a.x", "2"), ("$.b[last-1]", "3")],
+            Wanted::Same,
+            WORKED,
         ),
     ];
     for row in cases {
@@ -378,7 +525,7 @@ fn several_pairs_are_stored_as_one_change(rt: HostRuntime) -> Result<(), Fail> {
 
 #[test]
 fn several_removals_are_made_in_place(rt: HostRuntime) -> Result<(), Fail> {
-    let cases: [Row; 3] = [
+    let cases: [Row; 6] = [
         (
             WORKED,
             Verb::Remove,
@@ -400,6 +547,28 @@ fn several_removals_are_made_in_place(rt: HostRuntime) -> Result<(), Fail> {
             &[("$[0]", ""), ("$[0]", "")],
             Wanted::Runs(&[(1, 1), (6, 1), (9, 1)]),
             "[3]",
+        ),
+        (
+            WORKED,
+            Verb::Remove,
+            &[("$.c", ""), ("$.x.y", ""), ("$.b", "")],
+            Wanted::Runs(&[(1, 1), (9, 3), (13, 6)]),
+            r#"{"a":1000}"#,
+        ),
+        // Behind the first path the second one finds nothing.
+        (
+            "[1,2,3]",
+            Verb::Remove,
+            &[("$[2]", ""), ("$[2]", ""), ("$[0]", "")],
+            Wanted::Runs(&[(1, 1), (6, 1)]),
+            "[2]",
+        ),
+        (
+            WORKED,
+            Verb::Remove,
+            &[("$.x", ""), ("$.a[0]", ""), ("$.b.c", "")],
+            Wanted::Same,
+            WORKED,
         ),
     ];
     for row in cases {
@@ -445,5 +614,59 @@ fn a_hundred_containers_are_the_most(rt: HostRuntime) -> Result<(), Fail> {
             assert_eq!(rt; found, is_deep, "{lists} lists for {inner}");
         }
     }
+    Ok(())
+}
+
+// A text of 700 letters alone in an object: its entry stands at 9, and it from 13 to 715.
+fn with_letters(alloc: Global) -> Result<String, Fail> {
+    let letters = repeated(alloc, "k", 700)?;
+    Ok(format!(in alloc; "{{\"a\":\"{}\"}}", letters.as_str())?)
+}
+
+#[test]
+fn a_value_nests_too_deep_alone(rt: HostRuntime) -> Result<(), Fail> {
+    let alloc = rt.alloc();
+    let text = with_letters(alloc)?;
+    // Position 0 of a text is the text itself, so that it adds no depth.
+    let cases: [(&str, usize, bool); 4] = [
+        ("$.a", 100, true),
+        ("$.a", 99, false),
+        ("$.a[0]", 100, true),
+        ("$.a[0]", 99, false),
+    ];
+    for (path, lists, is_deep) in cases {
+        let found = nests_too_deep(alloc, text.as_str(), path, lists)?;
+        assert_eq!(rt; found, is_deep, "{lists} lists at {path}");
+    }
+    Ok(())
+}
+
+#[test]
+fn a_value_that_nests_too_deep_is_replaced_again(rt: HostRuntime) -> Result<(), Fail> {
+    let alloc = rt.alloc();
+    // 100 lists take 99 times 7 and 4 bytes, none of them a k, and with the object they are too many.
+    let deep = nested(alloc, 100, "")?;
+    let pairs = [("$.a", deep.as_str()), ("$.a", "5")];
+    let text = with_letters(alloc)?;
+    let mut bytes = stored(alloc, text.as_str())?;
+    let runs = Wanted::Runs(&[(9, 2), (13, 697)]);
+    let row = (
+        text.as_str(),
+        Verb::Set,
+        pairs.as_slice(),
+        runs,
+        r#"{"a":5}"#,
+    );
+    assert!(rt; is_stored(alloc, row)?, "in the place of the letters");
+    // Where 5 was there before, the letters are its room.
+    assert_eq!(rt; step(alloc, &mut bytes, "$.a", "5")?, 2);
+    let five = r#"{"a":5}"#;
+    let row = (five, Verb::Set, pairs.as_slice(), Wanted::Same, five);
+    assert!(rt; is_stored_in(alloc, bytes, row)?, "in the place of 5");
+    // The second pair finds nothing, and the first one stays.
+    let pairs = [("$.a", deep.as_str()), ("$.x.y", "5")];
+    let edit = edit_of(alloc, Verb::Set, &pairs)?;
+    let found = is_too_deep(alloc, &stored(alloc, text.as_str())?, &edit)?;
+    assert!(rt; found, "beside a pair that finds nothing");
     Ok(())
 }

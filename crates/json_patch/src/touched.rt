@@ -19,31 +19,31 @@ pub fn runs_of_writes(alloc: Global, bytes: &[u8], writes: &[Write]) -> Result<P
 {
     let mut patches = Vec::new(alloc);
     for write in writes {
-        add_write(alloc, bytes, write, &mut patches)?;
+        add_bytes(alloc, bytes, write.at, write.bytes.as_slice(), &mut patches)?;
     }
     Ok(Parts::from_patches(patches))
 }
 
-// Adds the places that one more write changes, behind all that were written. At an error the
-// patches may be those of a part of it, with a last one that is half made.
-fn add_write(
+/// Adds the places that bytes written at a place change, behind all that were written. At an error
+/// the patches may be those of a part of them, with a last one that is half made.
+pub fn add_bytes(
     alloc: Global,
     bytes: &[u8],
-    write: &Write,
+    at: usize,
+    after: &[u8],
     patches: &mut Vec<Patch>,
 ) -> Result<(), AllocError>
-    requires inside { write.now.at + length write.now.bytes.items ≤ length bytes.now }
+    requires inside { at + length after.now ≤ length bytes.now }
     requires small { length bytes.now ≤ 16777216 }
     ensures { OnOk result ((new : List ℕ) → length new ≡ length bytes.now →
-        drop write.now.at new ≡ drop write.now.at bytes.now →
+        drop at new ≡ drop at bytes.now →
         map run_of patches.old.items ≡ runs bytes.now new →
-        map run_of patches.new.items ≡ runs bytes.now (written new write.now.at write.now.bytes.items)) }
+        map run_of patches.new.items ≡ runs bytes.now (written new at after.now)) }
 {
-    for k in 0..write.bytes.len() {
-        let at = write.at + k;
-        let after = write.bytes[k];
-        if bytes[at] != after {
-            add_place(alloc, at, bytes[at], after, patches)?;
+    for k in 0..after.len() {
+        let place = at + k;
+        if bytes[place] != after[k] {
+            add_place(alloc, place, bytes[place], after[k], patches)?;
         }
     }
     Ok(())

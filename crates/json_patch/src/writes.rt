@@ -1,5 +1,5 @@
 //! An edit in place, as writes into the document's bytes.
-ghost use Rattle.std.specs.Prelude.{◌≡◌, ◌≤◌, ◌<◌, ◌+◌, ◌-◌, ◌^◌, min, ◌++◌, ◌∷◌, [], true, false, length, IfOk, Some, option_map};
+ghost use Rattle.std.specs.Prelude.{◌≡◌, ◌≤◌, ◌<◌, ◌+◌, ◌-◌, ◌^◌, min, ◌++◌, ◌∷◌, ℕ, List, [], true, false, length, IfOk, OnOk, Some, option_map};
 ghost use Rattle.binary_model.specs.Layout as layout;
 ghost use Rattle.binary_model.specs.Change as change;
 ghost use Rattle.binary_model.specs.Canonical as canonical;
@@ -9,9 +9,11 @@ ghost use Rattle.json_binary.specs.Sizes.{IsMeasured};
 ghost use Rattle.json_binary.specs.Place.{container_of, IsFramed};
 ghost use Rattle.json_patch.specs.Stand.{HasValues};
 ghost use Rattle.json_patch.specs.Writes.{put_writes, AreInside, IsMade};
+ghost use Rattle.json_patch.specs.Spans.{DifferInSpans};
 
 use crate::parts::put;
 use crate::room::{room_end, room_start};
+use crate::spans::Span;
 use json_binary::{Container, Measured, encode, measure, push_entry, push_word};
 use json_tree::Json;
 use std::alloc::{AllocError, Global};
@@ -23,14 +25,23 @@ pub struct Write {
     pub bytes: Vec<u8>,
 }
 
-/// Makes writes, one after the other.
-pub fn write_all(bytes: &mut [u8], writes: &[Write])
+/// Makes writes, one after the other, and notes where. At an error some of them may be made.
+pub fn write_all(
+    bytes: &mut [u8],
+    spans: &mut Vec<Span>,
+    writes: &[Write],
+) -> Result<(), AllocError>
     requires { AreInside (length bytes.old) writes.now }
-    ensures { bytes.new ≡ put_writes writes.now bytes.old }
+    ensures put { OnOk result (bytes.new ≡ put_writes writes.now bytes.old) }
+    ensures noted { OnOk result ((old : List ℕ) → DifferInSpans old bytes.old spans.old.items →
+        DifferInSpans old bytes.new spans.new.items) }
 {
     for write in writes {
+        let end = write.at + write.bytes.len();
+        spans.push(Span { at: write.at, end })?;
         put(bytes, write.at, write.bytes.as_slice());
     }
+    Ok(())
 }
 
 /// The writes that replace a container's k-th value; none, where the new one doesn't fit its room.

@@ -7,8 +7,15 @@ use Rattle.json_path.specs.View.{leg_of}
 use Rattle.json_binary.specs.Place.{spot_of}
 use Rattle.json_patch.specs.Led.{IsTaken}
 use Rattle.json_patch.specs.Writes.{put_writes}
-use Rattle.json_patch.proofs.RemovalLemmas.{none_taken, kept_plan, removed_plan}
+use Rattle.json_patch.proofs.RemovalLemmas.{none_taken, taken_stands, kept_plan, removed_plan}
 use Rattle.json_patch.proofs.removal.plan_removal.Goals as goal
+
+pub removing-requires-clause-stands : goal.removing-requires-clause-stands
+removing-requires-clause-stands c =
+    let bytes = c.args.bytes.now in
+    let (t, stands) = c.requires.document in
+    let taken = c.taken_from.ensures t stands.«tree» (subst (IsValue bytes t) (sym c.root.ensures.place) stands.value) in
+    (taken_stands bytes t (spot_of c.root.result) (map leg_of c.legs.result.now) c.taken_from.result c.in-Some.container c.in-Some.k c.in-Some.is taken).0
 
 pub returns-in_default-clause-plan : goal.returns-in_default-clause-plan
 returns-in_default-clause-plan c =

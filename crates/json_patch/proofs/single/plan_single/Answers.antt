@@ -1,7 +1,5 @@
-use Rattle.std.proofs.Common.{◌≡◌, ◌+◌, ◌≤◌, Some, length, map, option_map, sym, ap, subst, ◌∙◌, arith}
-use Rattle.std.proofs.lemmas.Grind.{common_steps}
+use Rattle.std.proofs.Common.{◌+◌, ◌≤◌, Some, length, map, option_map, sym, ap, subst, ◌∙◌}
 use Rattle.tree_model.specs.Tree.{depth}
-use Rattle.tree_model.specs.Same.{same_tree}
 use Rattle.binary_model.specs.Stands.{IsValue}
 use Rattle.binary_model.specs.Canonical.{spelling}
 use Rattle.binary_model.specs.Change.{positions, with_value, runs}
@@ -14,8 +12,8 @@ use Rattle.json_patch.specs.declared.place.Place.TheVariants.{Root, Inside}
 use Rattle.json_patch.proofs.SingleLemmas.{place_found, same_plan, parts_plan}
 use Rattle.json_patch.proofs.single.plan_single.Goals as goal
 
-pub returns-then-same-clause-plan : goal.returns-then-same-clause-plan
-returns-then-same-clause-plan c =
+pub returns-then-equals-clause-plan : goal.returns-then-equals-clause-plan
+returns-then-equals-clause-plan c =
     let bytes = c.args.bytes.now in
     let path = c.args.pair.now.path in
     let u = tree_of c.args.pair.now.value in
@@ -25,10 +23,9 @@ returns-then-same-clause-plan c =
     let led = c.in-Some-Inside.ensures t stands.«tree» (subst (IsValue bytes t) (sym c.root.ensures.place) stands.value) in
     let here = subst (λ f. IsLed bytes (spot_of c.root.result) Root (positions (map leg_of c.legs-legs.result.now) t) (Some f)) c.in-Some-Inside.field-0-is led in
     let led_by = subst (λ ls. IsLed bytes (spot_of c.root.result) Root (positions ls t) (Some (Inside box k))) c.legs-legs.ensures.legs here in
-    let place = place_found bytes t path (spot_of c.root.result) box k stands c.root.ensures.place led_by in
-    let old = c.in_ok-decode_value.ensures _ place.is (subst (IsValue bytes _) (sym c.in-Some.ensures.place) place.there) place.shallow in
-    let compared = ap (λ v. same_tree v u) (sym old) ∙ sym c.same.ensures in
-    same_plan bytes t u path box k stands place e edit (compared ∙ c.if-same.true)
+    let place = place_found bytes t path (spot_of c.root.result) box k stands.«tree» stands.value c.root.ensures.place led_by in
+    let compared = sym (c.equals.ensures _ (subst (IsValue bytes _) (sym c.in-Some.ensures.place) place.there)) in
+    same_plan bytes t u path box k stands place e edit (compared ∙ c.if-equals.true)
 
 pub returns-clause-plan : goal.returns-clause-plan
 returns-clause-plan c =
@@ -41,11 +38,9 @@ returns-clause-plan c =
     let led = c.in-Some-Inside.ensures t stands.«tree» (subst (IsValue bytes t) (sym c.root.ensures.place) stands.value) in
     let here = subst (λ f. IsLed bytes (spot_of c.root.result) Root (positions (map leg_of c.legs-legs.result.now) t) (Some f)) c.in-Some-Inside.field-0-is led in
     let led_by = subst (λ ls. IsLed bytes (spot_of c.root.result) Root (positions ls t) (Some (Inside box k))) c.legs-legs.ensures.legs here in
-    let place = place_found bytes t path (spot_of c.root.result) box k stands c.root.ensures.place led_by in
-    let old = c.in_ok-decode_value.ensures _ place.is (subst (IsValue bytes _) (sym c.in-Some.ensures.place) place.there) place.shallow in
-    let compared = ap (λ v. same_tree v u) (sym old) ∙ sym c.same.ensures in
+    let place = place_found bytes t path (spot_of c.root.result) box k stands.«tree» stands.value c.root.ensures.place led_by in
+    let compared = sym (c.equals.ensures _ (subst (IsValue bytes _) (sym c.in-Some.ensures.place) place.there)) in
     let made = subst (λ f. IsMade bytes (with_value bytes (spelling u) (container_of box) k) (option_map (λ ws. ws.items) f)) c.in-Some-2.is c.in_ok-writes.ensures in
-    let legs : length (map leg_of c.legs-legs.result.now) ≡ length path = ap length c.legs-legs.ensures.legs in
-    let low : length path + depth u ≤ 100 = grind (arith, common_steps, legs, c.depth.ensures, c.if-legs-gt-MAX_NESTED.false, c.if-depth-legs.false) in
-    parts_plan bytes t u path box k stands place e edit (compared ∙ c.if-same.false) (put_writes c.in-Some-2.writes.items bytes) made.0 low c.in_ok-runs_of_writes.field-0
+    let low : length path + depth u ≤ 100 = c.nests_over.ensures c.if-nests_over.false in
+    parts_plan bytes t u path box k stands place e edit (compared ∙ c.if-equals.false) (put_writes c.in-Some-2.writes.items bytes) made.0 low c.in_ok-runs_of_writes.field-0
     (c.in_ok-runs_of_writes.ensures ∙ ap (λ ws. runs bytes (put_writes ws bytes)) c.deref.ensures.value)

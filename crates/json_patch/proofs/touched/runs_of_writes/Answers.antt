@@ -1,8 +1,8 @@
-use Rattle.std.proofs.Common.{sym, subst, map, ◌+◌}
+use Rattle.std.proofs.Common.{◌+◌, sym, subst, map}
 use Rattle.json_patch.specs.View.{run_of}
 use Rattle.json_patch.specs.Writes.{put_writes}
 use Rattle.json_patch.proofs.WriteLemmas.{left_writes}
-use Rattle.json_patch.proofs.TouchLemmas.{Touched, touched_none, touched_more, next_write}
+use Rattle.json_patch.proofs.TouchLemmas.{Touched, AddsBytes, touched_none, touched_more, next_write}
 use Rattle.json_patch.proofs.touched.runs_of_writes.Goals as goal
 
 pub loop-write-init : goal.loop-write-init
@@ -19,4 +19,5 @@ loop-write-preserved c =
     let w = c.write-item.result in
     let rs = map run_of c.loop-write.patches.items in
     let here = subst (λ left. Touched bytes (put_writes ws bytes) left rs) (next_write ws i w c.loop-write-test.true c.write-item.is) c.loop-write.invariant in
-    touched_more bytes (put_writes ws bytes) w (left_writes ws (i + 1)) rs (map run_of c.add_write.new.patches.items) here c.in_ok-add_write.ensures
+    touched_more bytes (put_writes ws bytes) w (left_writes ws (i + 1)) rs (map run_of c.add_bytes.new.patches.items)
+    here (subst (AddsBytes bytes w.at rs (map run_of c.add_bytes.new.patches.items)) c.as_slice.ensures.value c.in_ok-add_bytes.ensures)
