@@ -9,8 +9,8 @@ PROGRAM is the built `lobstore` (by default the one that `rt run` leaves in crat
   Linear in the bytes is a ratio of 10.
 - sets: N sets of one number (by default 10,000) in a document of 10 MB against as many in one of 10 KB of the same shape, each less the
   time of its insert alone.
-- pairs and removals: 100 statements that set two numbers each, and 100 that remove by one path, in the same 10 MB, each less the time of
-  the insert alone: the first copies the stored bytes once.
+- pairs and removals: 1,000 statements that set two numbers each, and 1,000 that remove by one path, in the same 10 MB, each less the
+  time of the insert alone: the first copies the stored bytes once.
 - SQLite: M sets (by default 20) of that number in the same 10 MB by `json_set` in one UPDATE each, in memory, by its command line, less
   the time of the insert alone; for each of them, against ours. Left out where there is no `sqlite3`.
 
@@ -106,9 +106,10 @@ def main():
     print("%d sets: 10 KB %.4f s, 10 MB %.4f s, ratio %.1f"
           % (args.sets, sets - base, large_sets - large_base, (large_sets - large_base) / max(sets - base, 1e-6)))
 
-    scripts = [with_pairs(large, 100), with_removals(large, 100)]
+    count = 1_000
+    scripts = [with_pairs(large, count), with_removals(large, count)]
     pairs, removals = best(ours, scripts, args.rounds, 0)
-    print("in 10 MB: a set of two numbers %.3f ms, a removal %.3f ms" % ((pairs - large_base) * 10, (removals - large_base) * 10))
+    print("in 10 MB: a set of two numbers %.3f ms, a removal %.3f ms" % ((pairs - large_base) * 1e3 / count, (removals - large_base) * 1e3 / count))
 
     if shutil.which("sqlite3"):
         count = args.sqlite_sets
