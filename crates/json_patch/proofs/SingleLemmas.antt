@@ -1,8 +1,9 @@
 -- An edit that puts one value where a path leads, below the root: when it leaves its tree equal, how deep its tree is, and what is stored for it.
-use Rattle.std.proofs.Common.{◌≡◌, ℕ, zero, suc, ◌+◌, ◌≤◌, ◌<◌, max, Bool, true, false, true≢false, List, [], ◌∷◌, length, Option, Some, None, option_map, option_and_then, is_some, refl, sym, ap, subst, ◌∙◌, arith}
+use Rattle.std.proofs.Common.{nat_lt, ◌≡◌, ℕ, zero, suc, ◌+◌, ◌≤◌, ◌<◌, max, Bool, true, false, true≢false, List, [], ◌∷◌, length, Option, Some, None, option_map, option_and_then, is_some, refl, sym, ap, subst, ◌∙◌, arith}
 use Rattle.tree_model.specs.Tree.{Tree, null, boolean, number, text, array, object, Trees, no_trees, tree, tree_list, Members, no_members, member, depth, trees_depth, members_depth, IsTree, AreTrees, HoldTrees}
 use Rattle.std.proofs.Common.{◌++◌, ◌==◌, if◌then◌else◌, ◌⊎◌, inl, inr}
 use Rattle.std.proofs.lemmas.Grind.{common_steps}
+use Rattle.std.proofs.lemmas.Bool.{ltb-false}
 use Rattle.tree_model.specs.Path.{Leg, key, cell, last, Path, child}
 use Rattle.tree_model.specs.Same.{same_tree}
 use Rattle.tree_model.proofs.SameLemmas.{tree_equal, tree_itself}
@@ -314,6 +315,11 @@ place_found bytes t path s c k is value root led =
       reaches = reach;
       there = stands_there found.1 found.0 bytes t (layout.root bytes) (container_of c) k value reach found.3.2;
     }
+
+-- ---- as many as may be nested
+
+pub not_over : (n : ℕ) (over : Bool) → over ≡ nat_lt 100 n → over ≡ false → n ≤ 100
+not_over n over e h = let low = ltb-false 100 n (sym e ∙ h) in omega (arith, low)
 
 -- ---- the plan of one pair
 

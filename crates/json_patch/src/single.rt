@@ -1,5 +1,5 @@
 //! The plan of an edit of one pair that is made in place, from the path and the value at its end alone.
-ghost use Rattle.std.specs.Prelude.{◌≡◌, ◌≤◌, ◌<◌, ◌+◌, length, false, IfOk, IfSome};
+ghost use Rattle.std.specs.Prelude.{◌≡◌, ◌≤◌, ◌<◌, ◌+◌, length, nat_lt, IfOk, IfSome};
 ghost use Rattle.tree_model.specs.Tree.{Tree, depth};
 ghost use Rattle.tree_model.specs.Edit as model;
 ghost use Rattle.binary_model.specs.Stands.{Stands};
@@ -15,9 +15,10 @@ use json_binary::{child, equals, root};
 use json_edit::Pair;
 use std::alloc::{AllocError, Global};
 
-/// Whether a pair's value might nest too deep at the end of its path.
+/// Whether a pair's legs and the containers nested in its value are together more than may be
+/// nested. Its value may be less deep where it is put, since a leg may stay where it is.
 pub fn nests_over(pair: &Pair) -> bool
-    ensures { result ≡ false → length pair.now.path + depth (tree_of pair.now.value) ≤ 100 }
+    ensures { result ≡ nat_lt 100 (length pair.now.path + depth (tree_of pair.now.value)) }
 {
     let legs = pair.path.legs().len() as u32;
     legs > MAX_NESTED || pair.value.depth() > MAX_NESTED - legs

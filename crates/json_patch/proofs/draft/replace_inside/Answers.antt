@@ -7,7 +7,7 @@ use Rattle.json_tree.specs.View.{tree_of}
 use Rattle.json_path.specs.View.{leg_of}
 use Rattle.json_binary.specs.Place.{container_of, spot_of}
 use Rattle.json_patch.specs.Writes.{IsMade, put_writes}
-use Rattle.json_patch.proofs.SingleLemmas.{place_found}
+use Rattle.json_patch.proofs.SingleLemmas.{not_over, place_found}
 use Rattle.json_patch.proofs.DraftLemmas.{inside_kept, inside_marked, inside_put, there_at, root_at, entered_place}
 use Rattle.json_patch.proofs.draft.replace_inside.Goals as goal
 
@@ -58,4 +58,4 @@ returns-clause-put c =
     (ap (λ ls. positions ls u) c.legs.ensures.legs ∙ place.at) (c.in_ok-place.ensures u d.stands.is value) in
     inside_put adding path v t u c.args.draft d box c.args.k place c.in_ok-touched.touched c.nests_over.result c.visit.ensures (sym (c.equals.ensures _ at) ∙ c.if-equals.false)
     (subst (λ b. with_value b (spelling v) (container_of box) c.args.k ≡ Some (put_writes c.in-Some-2.writes.items b)) c.deref-3.ensures.value so.0 ∙ ap (λ ws. Some (put_writes ws items)) (sym c.deref-6.ensures.value) ∙ ap Some (sym touched.0))
-    (ap (map (λ ks. ks.items)) touched.1 ∙ map-append (λ ks. ks.items) c.args.draft.touched.items (c.in-Some-3.place ∷ []) ∙ ap (λ ks. map (λ ks. ks.items) c.args.draft.touched.items ++ ks ∷ []) entered) touched.2 c.nests_over.ensures
+    (ap (map (λ ks. ks.items)) touched.1 ∙ map-append (λ ks. ks.items) c.args.draft.touched.items (c.in-Some-3.place ∷ []) ∙ ap (λ ks. map (λ ks. ks.items) c.args.draft.touched.items ++ ks ∷ []) entered) touched.2 (not_over _ c.nests_over.result c.nests_over.ensures)

@@ -9,7 +9,7 @@ use Rattle.json_binary.specs.Place.{container_of, spot_of}
 use Rattle.json_patch.specs.Led.{IsLed}
 use Rattle.json_patch.specs.Writes.{IsMade, put_writes}
 use Rattle.json_patch.specs.declared.place.Place.TheVariants.{Root, Inside}
-use Rattle.json_patch.proofs.SingleLemmas.{place_found, same_plan, parts_plan}
+use Rattle.json_patch.proofs.SingleLemmas.{not_over, place_found, same_plan, parts_plan}
 use Rattle.json_patch.proofs.single.plan_single.Goals as goal
 
 pub returns-then-equals-clause-plan : goal.returns-then-equals-clause-plan
@@ -41,6 +41,6 @@ returns-clause-plan c =
     let place = place_found bytes t path (spot_of c.root.result) box k stands.«tree» stands.value c.root.ensures.place led_by in
     let compared = sym (c.equals.ensures _ (subst (IsValue bytes _) (sym c.in-Some.ensures.place) place.there)) in
     let made = subst (λ f. IsMade bytes (with_value bytes (spelling u) (container_of box) k) (option_map (λ ws. ws.items) f)) c.in-Some-2.is c.in_ok-writes.ensures in
-    let low : length path + depth u ≤ 100 = c.nests_over.ensures c.if-nests_over.false in
+    let low : length path + depth u ≤ 100 = not_over _ c.nests_over.result c.nests_over.ensures c.if-nests_over.false in
     parts_plan bytes t u path box k stands place e edit (compared ∙ c.if-equals.false) (put_writes c.in-Some-2.writes.items bytes) made.0 low c.in_ok-runs_of_writes.field-0
     (c.in_ok-runs_of_writes.ensures ∙ ap (λ ws. runs bytes (put_writes ws bytes)) c.deref.ensures.value)
