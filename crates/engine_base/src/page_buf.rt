@@ -3,6 +3,7 @@ ghost use Rattle.std.specs.Prelude.{◌≡◌, ◌+◌, ◌≤◌, ℕ, List, le
 ghost use Rattle.std.specs.Borrow.{sem};
 ghost use Rattle.page_model.specs.Pages.{page_bytes, patched};
 
+use crate::PAGE_BYTES;
 use std::alloc::{AllocError, Global};
 use std::marker::Model;
 
@@ -31,7 +32,7 @@ impl PageBuf {
         ensures { IfOk result (λ page. page ≡ replicate page_bytes 0) }
     {
         Ok(PageBuf {
-            bytes: vec![in alloc; 0u8; 16_384]?,
+            bytes: vec![in alloc; 0u8; PAGE_BYTES]?,
         })
     }
 

@@ -1,1 +1,2 @@
 pub mod OverlaidLemmas
+pub mod MemDiskLemmas

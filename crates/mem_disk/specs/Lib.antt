@@ -1,3 +1,5 @@
+pub mod MemDisk
+pub mod MemDiskLaws
 pub mod MemPages
 pub mod Streams
 pub mod SureDisk

@@ -1,7 +1,7 @@
 ghost use Rattle.std.specs.Prelude.{◌≡◌, ◌^◌, ◌<◌, length, All, replicate, IfOk};
 ghost use Rattle.page_model.specs.Pages.{page_bytes};
 
-use engine_base::{Fault, PageBuf, PageNo, Pages};
+use engine_base::{Fault, MAX_ROOM, PageBuf, PageNo, Pages};
 use std::alloc::{AllocError, Global};
 
 /// Pages in memory. No page counts as pinned, a write takes no room, and no call fails.
@@ -53,7 +53,7 @@ impl Pages for MemPages {
     }
 
     fn room(&self) -> u32 {
-        262_138
+        MAX_ROOM
     }
 
     fn read(&mut self, page: PageNo, at: u16, into: &mut [u8]) -> Result<(), Fault> {

@@ -1,6 +1,6 @@
 // A disk in memory that fails only where it has no room.
-ghost use Rattle.std.specs.Prelude.{◌≡◌, ◌+◌, ◌<◌, ◌≤◌, ◌↔◌, ◌++◌, List, ℕ, Some, false, max, length, take, drop, vec_len, vec_capacity, IsOk, IsErr, IfOk, OnOk, OnErr};
-ghost use Rattle.engine_base.specs.Disk.{Holds, Torn, Written};
+ghost use Rattle.std.specs.Prelude.{◌≡◌, ◌+◌, ◌<◌, ◌≤◌, ◌↔◌, ◌++◌, List, ℕ, Some, max, length, take, drop, vec_len, vec_capacity, IsOk, IsErr, IfOk, OnOk, OnErr};
+ghost use Rattle.engine_base.specs.Disk.{Holds, Torn, Written, without_images};
 ghost use Rattle.engine_base.specs.Faults.{HasCause, FailsPlainly};
 ghost use Rattle.engine_base.specs.Untold.{untold};
 ghost use Rattle.mem_disk.specs.SureDisk.{overlaid, after_write, after_failed_write};
@@ -62,7 +62,7 @@ fn write_over(file: &mut [u8], at: usize, bytes: &[u8])
 }
 
 // Writes the bytes from place `at` on, with zeros in a gap behind the old end. It needs no memory.
-fn overwrite(file: &mut Vec<u8>, at: usize, bytes: &[u8])
+pub(crate) fn overwrite(file: &mut Vec<u8>, at: usize, bytes: &[u8])
     requires { at + length bytes.now ≤ vec_capacity file.old }
     ensures items { file.new.items ≡ overlaid file.old.items at bytes.now }
     ensures len { vec_len file.new ≡ max (vec_len file.old) (at + length bytes.now) }
@@ -76,17 +76,7 @@ fn overwrite(file: &mut Vec<u8>, at: usize, bytes: &[u8])
 }
 
 impl Disk for SureDisk {
-    ghost seen = { λ d. Some d.contents };
-
-    ghost tells_images = { λ _. false };
-
-    ghost may_leave = { λ _ _. ⊥ };
-
-    ghost moment = { λ _. 0 };
-
-    ghost left_since = { λ _ _ _. ⊥ };
-
-    ghost faults = { λ d. d.faults };
+    ghost state = { λ d. without_images (Some d.contents) d.faults };
 
     ghost seen_may_stay = { λ disk file tells is. untold tells };
 

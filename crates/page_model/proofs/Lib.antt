@@ -1,6 +1,13 @@
+pub mod CountLemmas
+pub mod CoverLemmas
 pub mod FrameLemmas
+pub mod GroupFrameLemmas
 pub mod ListLemmas
+pub mod NumberLemmas
+pub mod ParseLemmas
 pub mod SpanLemmas
 pub mod StepLemmas
+pub mod TableLemmas
 pub mod UnlinkLemmas
 pub mod WalkLemmas
+pub mod WholeLemmas

@@ -1,9 +1,9 @@
 -- Calls one after another: what they touch and write.
-use Rattle.std.proofs.Common.{◌≡◌, ◌≢◌, inl, inr, ℕ, ◌+◌, ◌≤◌, ◌==◌, Bool, true, false, ◌||◌, cond, List, [], ◌∷◌, ◌++◌, length, Option, Some, None, refl, sym, ap, ◌∙◌, subst, arith}
-use Rattle.std.proofs.lemmas.Bool.{cases_eq, cases_Bool, or_cases, eq-eqb, ne_eqb}
-use Rattle.std.proofs.lemmas.List.{length-append}
+use Rattle.std.proofs.Common.{◌≡◌, ◌≢◌, inl, inr, ℕ, ◌+◌, ◌≤◌, ◌==◌, Bool, true, false, ◌||◌, cond, List, [], ◌∷◌, ◌++◌, length, Option, Some, None, IfSome, refl, sym, ap, ◌∙◌, subst, arith}
+use Rattle.std.proofs.lemmas.Bool.{cases_eq, cases_Bool, or_cases, eq-eqb, ne_eqb, eqb-true}
+use Rattle.std.proofs.lemmas.List.{length-append, append_assoc}
 use Rattle.page_model.specs.Pages.{Pages}
-use Rattle.page_model.specs.Steps.{PageState, among, different, IsWithin, MayUse, Uses, Told, Becomes}
+use Rattle.page_model.specs.Steps.{PageState, among, different, IsWithin, MayUse, Uses, most_pins, known, unknown, MayReach, Reaches, Told, Becomes}
 
 -- ---- among and different
 
@@ -11,6 +11,7 @@ or_true : (x : Bool) → (x || true) ≡ true
 or_true true = refl
 or_true false = refl
 
+-- a number among two lists
 pub among-append : (xs ys : List ℕ) (n : ℕ) → among (xs ++ ys) n ≡ (among xs n || among ys n)
 among-append [] ys n = refl
 among-append (x ∷ xs) ys n = elim (cases_Bool (n == x)) [
@@ -18,18 +19,22 @@ among-append (x ∷ xs) ys n = elim (cases_Bool (n == x)) [
   | inr not ↦ rw not (among-append xs ys n)
 ]
 
+-- the first of two lists is within both
 pub within_left : (xs ys : List ℕ) → IsWithin xs (xs ++ ys)
 within_left xs ys n is = among-append xs ys n ∙ rw is refl
 
+-- the second of two lists is within both
 pub within_right : (xs ys : List ℕ) → IsWithin ys (xs ++ ys)
 within_right xs ys n is = among-append xs ys n ∙ rw is (or_true (among xs n))
 
+-- two lists within a third
 pub within_both : (xs ys zs : List ℕ) → IsWithin xs zs → IsWithin ys zs → IsWithin (xs ++ ys) zs
 within_both xs ys zs left right n is = elim (or_cases (among xs n) (among ys n) (sym (among-append xs ys n) ∙ is)) [
   | inl a ↦ left n a
   | inr b ↦ right n b
 ]
 
+-- no numbers are within any
 pub within_nil : (zs : List ℕ) → IsWithin [] zs
 within_nil zs n is = cc
 
@@ -73,6 +78,7 @@ without_present x (y ∷ ys) present = elim (cases_eq x y) [
       ]
 ]
 
+-- fewer numbers have no more different ones
 pub different_within : (xs ys : List ℕ) → IsWithin xs ys → different xs ≤ different ys
 different_within [] ys within = omega arith
 different_within (x ∷ xs) ys within = elim (cases_Bool (among xs x)) [
@@ -86,6 +92,7 @@ different_within (x ∷ xs) ys within = elim (cases_Bool (among xs x)) [
       rw once (omega (arith, fewer, without_present x ys here))
 ]
 
+-- each number more makes one different at most
 pub different_append : (xs ys : List ℕ) → different (xs ++ ys) ≤ length xs + different ys
 different_append [] ys = omega arith
 different_append (x ∷ xs) ys = elim (cases_Bool (among (xs ++ ys) x)) [
@@ -199,11 +206,13 @@ uses_nowhere {state = state} named s same = record { count = refl; touches = rec
 within_named : (n named : List ℕ) → IsWithin n named → IsWithin (n ++ named) named
 within_named n named within = within_both n named named within (λ m is. is)
 
+-- what is left for a call inside another
 pub may_within : {T : Type 0} {state : T → PageState} {stays : T → T → Type 0} (named n : List ℕ) (most most_bytes k b k' b' : ℕ) (s t : T)
     → IsWithin n named → k + k' ≤ most → b + b' ≤ most_bytes → MayUse named most most_bytes (state s) → Uses state stays named k b s t → MayUse n k' b' (state t)
 may_within {state = state} named n most most_bytes k b k' b' s t within few short may so_far =
     may_use_then named n k k' b b' s t (may_less named (n ++ named) most (k + k') most_bytes (b + b') (state s) may (within_named n named within) few short) so_far
 
+-- what both have used, where the inner call touches named pages alone
 pub uses_within : {T : Type 0} {state : T → PageState} {stays : T → T → Type 0} (add : (a b c : T) → stays a b → stays b c → stays a c) (named n : List ℕ) (k b k' b' : ℕ) (s t u : T)
     → IsWithin n named → Uses state stays named k b s t → Uses state stays n k' b' t u → Uses state stays named (k + k') (b + b') s u
 uses_within add named n k b k' b' s t u within so_far call =
@@ -215,18 +224,110 @@ pub may_other : {T : Type 0} {state : T → PageState} {stays : T → T → Type
 may_other {state = state} named q most most_bytes k b b' s t few short may so_far =
     may_use_then named (q ∷ []) k 0 b b' s t (may_name q named (k + 0) (b + b') (state s) (may_less named named most (k + 0 + 1) most_bytes (b + b') (state s) may (λ n is. is) (omega arith) short)) so_far
 
+-- what both have used, where the inner call touches a page that is not named
 pub uses_other : {T : Type 0} {state : T → PageState} {stays : T → T → Type 0} (add : (a b c : T) → stays a b → stays b c → stays a c) (named : List ℕ) (q k b b' : ℕ) (s t u : T)
     → Uses state stays named k b s t → Uses state stays (q ∷ []) 0 b' t u → Uses state stays named (k + 1) (b + b') s u
 uses_other add named q k b b' s t u so_far call =
     uses_more named named (k + 0 + 1) (k + 1) (b + b') (b + b') s u (uses_unnamed q named (k + 0) (b + b') s u (uses_then add named (q ∷ []) k 0 b b' s t u so_far call)) (λ n is. is) (omega arith) (omega arith)
 
+-- what was used, by greater bounds
 pub uses_at_most : {T : Type 0} {state : T → PageState} {stays : T → T → Type 0} (named : List ℕ) (k b most most_bytes : ℕ) (s t : T)
     → k ≤ most → b ≤ most_bytes → Uses state stays named k b s t → Uses state stays named most most_bytes s t
 uses_at_most named k b most most_bytes s t few short uses = uses_more named named k most b most_bytes s t uses (λ n is. is) few short
 
+unknown_less : (near : Option (List ℕ)) (k most : ℕ) → k ≤ most → unknown near k + 0 ≤ unknown near most
+unknown_less None k most few = omega arith
+unknown_less (Some ns) k most few = omega arith
+
+within_single : (q : ℕ) (xs : List ℕ) → among xs q ≡ true → IsWithin (q ∷ []) xs
+within_single q xs there n is = elim (or_cases (n == q) false is) [
+  | inl same ↦ ap (among xs) (eqb-true n q same) ∙ there
+  | inr never ↦ cc
+]
+
+none_left : (others rest : List ℕ) → length others ≤ 0 → (n : ℕ) → among (others ++ rest) n ≡ true → among rest n ≡ true
+none_left [] rest few n is = is
+none_left (o ∷ others) rest few n is = absurd (omega arith)
+
+-- ---- calls whose other pages may be known
+
+-- the bound on the others is enough, whether or not they are known
+pub may_reach : (near : Option (List ℕ)) (named : List ℕ) (most bytes : ℕ) (s : PageState) → length (known near) ≤ most → MayUse named most bytes s → MayReach near named most bytes s
+may_reach None named most bytes s few may = may
+may_reach (Some ns) named most bytes s few may = record {
+  pins = rw append_assoc (omega (arith, different_append ns (named ++ s.touched), may.pins, few));
+  room = may.room;
+}
+
+-- where all that is touched is pinned already
+pub may_pinned : (near named : List ℕ) (most bytes : ℕ) (s : PageState) → IsWithin (near ++ named) s.touched → different s.touched ≤ most_pins → bytes ≤ s.room → MayReach (Some near) named most bytes s
+may_pinned near named most bytes s within few room = record {
+  pins = omega (arith, different_within ((near ++ named) ++ s.touched) s.touched (within_both (near ++ named) s.touched s.touched within (λ n is. is)), few);
+  room = room;
+}
+
+-- a call inside one that may reach others
+pub may_in : {T : Type 0} {state : T → PageState} {stays : T → T → Type 0} (near : Option (List ℕ)) (named n : List ℕ) (most most_bytes k b b' : ℕ) (s t : T)
+    → IsWithin n named → k ≤ most → b + b' ≤ most_bytes → MayReach near named most most_bytes (state s) → Reaches state stays near named k b s t → MayUse n 0 b' (state t)
+may_in near named n most most_bytes k b b' s t within few short may so_far =
+    may_within (known near ++ named) n (unknown near most) most_bytes (unknown near k) b 0 b' s t (λ m is. within_right (known near) named m (within m is)) (unknown_less near k most few) short may so_far
+
+-- what both have used, where the others may be known
+pub uses_in : {T : Type 0} {state : T → PageState} {stays : T → T → Type 0} (add : (a b c : T) → stays a b → stays b c → stays a c) (near : Option (List ℕ)) (named n : List ℕ) (k b b' : ℕ) (s t u : T)
+    → IsWithin n named → Reaches state stays near named k b s t → Uses state stays n 0 b' t u → Reaches state stays near named k (b + b') s u
+uses_in add near named n k b b' s t u within so_far call =
+    let all = known near ++ named in
+    uses_more all all (unknown near k + 0) (unknown near k) (b + b') (b + b') s u
+    (uses_within add all n (unknown near k) b 0 b' s t u (λ m is. within_right (known near) named m (within m is)) so_far call) (λ n is. is) (omega arith) (omega arith)
+
+-- a page that is named or near, where it is known which are
+abbrev pub IsReached : Option (List ℕ) → List ℕ → ℕ → Type 0
+IsReached near named q = IfSome near (λ ns. among (ns ++ named) q ≡ true)
+
+-- a call on such a page
+pub may_near : {T : Type 0} {state : T → PageState} {stays : T → T → Type 0} (near : Option (List ℕ)) (named : List ℕ) (q most most_bytes k b b' : ℕ) (s t : T)
+    → IsReached near named q → k + 1 ≤ most → b + b' ≤ most_bytes → MayReach near named most most_bytes (state s) → Reaches state stays near named k b s t → MayUse (q ∷ []) 0 b' (state t)
+may_near None named q most most_bytes k b b' s t reached few short may so_far = may_other named q most most_bytes k b b' s t few short may so_far
+may_near (Some ns) named q most most_bytes k b b' s t reached few short may so_far =
+    may_within (ns ++ named) (q ∷ []) 0 most_bytes 0 b 0 b' s t (within_single q (ns ++ named) reached) (omega arith) short may so_far
+
+-- what both have used, where the inner call touches a page near
+pub uses_near : {T : Type 0} {state : T → PageState} {stays : T → T → Type 0} (add : (a b c : T) → stays a b → stays b c → stays a c) (near : Option (List ℕ)) (named : List ℕ) (q k b b' : ℕ) (s t u : T)
+    → IsReached near named q → Reaches state stays near named k b s t → Uses state stays (q ∷ []) 0 b' t u → Reaches state stays near named (k + 1) (b + b') s u
+uses_near add None named q k b b' s t u reached so_far call = uses_other add named q k b b' s t u so_far call
+uses_near add (Some ns) named q k b b' s t u reached so_far call = uses_within add (ns ++ named) (q ∷ []) 0 b 0 b' s t u (within_single q (ns ++ named) reached) so_far call
+
+-- before the first call
+pub reaches_nowhere : {T : Type 0} {state : T → PageState} {stays : T → T → Type 0} (near : Option (List ℕ)) (named : List ℕ) (s : T) → stays s s → Reaches state stays near named 0 0 s s
+reaches_nowhere near named s same = uses_at_most (known near ++ named) 0 0 (unknown near 0) 0 s s (omega arith) (omega arith) (uses_nowhere (known near ++ named) s same)
+
+-- what was used, by greater bounds, where the others may be known
+pub reaches_at_most : {T : Type 0} {state : T → PageState} {stays : T → T → Type 0} (near : Option (List ℕ)) (named : List ℕ) (k b most most_bytes : ℕ) (s t : T)
+    → k ≤ most → b ≤ most_bytes → Reaches state stays near named k b s t → Reaches state stays near named most most_bytes s t
+reaches_at_most near named k b most most_bytes s t few short uses =
+    uses_at_most (known near ++ named) (unknown near k) b (unknown near most) most_bytes s t (let l = unknown_less near k most few in omega arith) short uses
+
+-- what was touched, by the bound
+pub uses_bound : {T : Type 0} {state : T → PageState} {stays : T → T → Type 0} (near : Option (List ℕ)) (named : List ℕ) (most bytes : ℕ) (s t : T)
+    → length (known near) ≤ most → Reaches state stays near named most bytes s t → Uses state stays named most bytes s t
+uses_bound None named most bytes s t few uses = uses
+uses_bound {state = state} (Some ns) named most bytes s t few uses = record {
+  count = uses.count;
+  touches = record { others = ns; few = few; within = λ n is. sym (ap (λ (xs : List ℕ). among xs n) (append_assoc ns named (state s).touched)) ∙ none_left uses.touches.others ((ns ++ named) ++ (state s).touched) uses.touches.few n (uses.touches.within n is) };
+  room = uses.room;
+  same = uses.same;
+}
+
+-- the pages touched, where it is known which are near
+pub near_within : {T : Type 0} {state : T → PageState} {stays : T → T → Type 0} (ns named : List ℕ) (most bytes : ℕ) (s t : T)
+    → Reaches state stays (Some ns) named most bytes s t → IsWithin (state t).touched ((ns ++ named) ++ (state s).touched)
+near_within {state = state} ns named most bytes s t uses n is = none_left uses.touches.others ((ns ++ named) ++ (state s).touched) uses.touches.few n (uses.touches.within n is)
+
+-- the first number of a list
 pub within_one : (n : ℕ) (more : List ℕ) → IsWithin (n ∷ []) (n ∷ more)
 within_one n more = within_left (n ∷ []) more
 
+-- the second number of a list
 pub within_two : (m n : ℕ) (more : List ℕ) → IsWithin (n ∷ []) (m ∷ n ∷ more)
 within_two m n more = λ k is. within_right (m ∷ []) (n ∷ more) k (within_one n more k is)
 

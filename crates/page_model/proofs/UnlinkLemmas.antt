@@ -9,6 +9,7 @@ use Rattle.page_model.proofs.ListLemmas.{walk_kept}
 use Rattle.page_model.proofs.SpanLemmas.{apart_parts, apart_flip, apart_narrow, from_split, from_join, pairwise_left, pairwise_right, pairwise_across, pairwise_without}
 use Rattle.page_model.proofs.WalkLemmas.{sets_within, outside_again, stays, stays_beside, first_null, first_append, last_append, walk_split, walk_join, walk_start, apart_last, walk_end}
 
+-- nodes have a last one
 pub last_some : (x : Address) (more : List Address) → last_of (x ∷ more) ≡ Some (last_or x more)
 last_some x [] = refl
 last_some x (y ∷ more) = last_some y more
@@ -120,6 +121,7 @@ cut_back p0 p1 base node xs (y ∷ more) before v after apart s left right =
     off_right [] ts n k off = off
     off_right (t ∷ ss) ts n k off = off_right ss ts n k off.1
 
+-- a node taken out: three writes make the new list
 pub removed : (p0 p1 p2 p3 : Pages) (base node : Address) (xs ys : List Address) → IsList p0 base (xs ++ node ∷ ys)
     → SetsAddress (on_place base (last_of xs)).page (on_place base (last_of xs)).at (or_null (first_of ys)) p0 p1
     → SetsAddress (back_place base (first_of ys)).page (back_place base (first_of ys)).at (or_null (last_of xs)) p1 p2
@@ -159,10 +161,12 @@ removed p0 p1 p2 p3 base node xs ys list s1 s2 s3 =
       subst S (sym spans) o,
     )
 
+-- the last node of a walk has its place
 pub last_place : (pages : Pages) (before : Address) (xs : List Address) (after : Address) → IsWalk pages before xs after → IfSome (last_of xs) (IsNodePlace (length pages))
 last_place pages before [] after walk = tt
 last_place pages before (x ∷ []) after walk = walk.0
 last_place pages before (x ∷ y ∷ more) after walk = last_place pages x (y ∷ more) after walk.3
 
+-- the last of some nodes, or null
 pub last_link : (xs : List Address) → last_or null_address xs ≡ or_null (last_of xs)
 last_link xs = sym (last_null xs)

@@ -9,9 +9,11 @@ use Rattle.page_model.proofs.SpanLemmas.{apart_sym, apart_parts, apart_flip, apa
 
 -- ---- one write
 
+-- an address within a span was written
 pub sets_within : (page at : ℕ) (v : Address) (a b : Pages) (at' size : ℕ) → at' ≤ at → at + 6 ≤ at' + size → SetsAddress page at v a b → SameOutside (span page at' size ∷ []) a b
 sets_within page at v a b at' size low high sets = outside_wider (span page at 6 ∷ []) (span page at' size ∷ []) a b (λ n k off. (off_part page at' size at 6 n k low high off.0, tt)) sets.outside
 
+-- a span that is written twice
 pub outside_again : (xs : List Span) (a b c : Pages) → SameOutside xs a b → SameOutside xs b c → SameOutside xs a c
 outside_again xs a b c first second = record { many = second.many ∙ first.many; sizes = λ n. second.sizes n ∙ first.sizes n; bytes = λ n k off. second.bytes n k off ∙ first.bytes n k off }
 
@@ -19,27 +21,33 @@ outside_again xs a b c first second = record { many = second.many ∙ first.many
 pub stays : (page at : ℕ) (v : Address) (a b : Pages) (page' at' : ℕ) → SetsAddress page at v a b → IsApart (span page at 6) (span page' at' 6) → address_at b page' at' ≡ address_at a page' at'
 stays page at v a b page' at' sets apart = address_kept (span page at 6 ∷ []) a b page' at' sets.outside (apart, tt)
 
+-- a field beside what was written
 pub stays_beside : (page at width v : ℕ) (a b : Pages) (page' at' : ℕ) → SetsField page at width v a b → IsApart (span page at width) (span page' at' 6) → address_at b page' at' ≡ address_at a page' at'
 stays_beside page at width v a b page' at' sets apart = address_kept (span page at width ∷ []) a b page' at' sets.outside (apart, tt)
 
 -- ---- walks
 
+-- the first of no nodes is null
 pub first_null : (nodes : List Address) → first_or null_address nodes ≡ or_null (first_of nodes)
 first_null [] = refl
 first_null (a ∷ more) = refl
 
+-- the first of two lists
 pub first_append : (after : Address) (xs ys : List Address) → first_or after (xs ++ ys) ≡ first_or (first_or after ys) xs
 first_append after [] ys = refl
 first_append after (x ∷ xs) ys = refl
 
+-- the last of two lists
 pub last_append : (before : Address) (xs ys : List Address) → last_or before (xs ++ ys) ≡ last_or (last_or before xs) ys
 last_append before [] ys = refl
 last_append before (x ∷ xs) ys = last_append x xs ys
 
+-- a walk over two lists is two walks
 pub walk_split : (pages : Pages) (before : Address) (xs ys : List Address) (after : Address) → IsWalk pages before (xs ++ ys) after → IsWalk pages before xs (first_or after ys) × IsWalk pages (last_or before xs) ys after
 walk_split pages before [] ys after walk = (tt, walk)
 walk_split pages before (x ∷ xs) ys after walk = let rest = walk_split pages x xs ys after walk.3 in ((walk.0, walk.1, walk.2 ∙ first_append after xs ys, rest.0), rest.1)
 
+-- two walks are one over both lists
 pub walk_join : (pages : Pages) (before : Address) (xs ys : List Address) (after : Address) → IsWalk pages before xs (first_or after ys) → IsWalk pages (last_or before xs) ys after → IsWalk pages before (xs ++ ys) after
 walk_join pages before [] ys after left right = right
 walk_join pages before (x ∷ xs) ys after left right = (left.0, left.1, left.2 ∙ sym (first_append after xs ys), walk_join pages x xs ys after left.3 right)
@@ -53,6 +61,7 @@ walk_start old new before before' a more after apart sets walk = (
   walk_kept (span a.page a.at 6 ∷ []) old new a more after sets.outside (apart_narrow a.page a.at 12 a.at 6 (map node_span more) (omega arith) (omega arith) (apart_flip (map node_span more) (node_span a) apart.0)) walk.3,
 )
 
+-- a node apart from others and the last of them
 pub apart_last : (b : Address) (more : List Address) (t : Span) → IsApartFromAll (map node_span (b ∷ more)) t → IsApart (node_span (last_or b more)) t
 apart_last b [] t apart = apart.0
 apart_last b (c ∷ more) t apart = apart_last c more t apart.1
@@ -108,6 +117,7 @@ after_back p1 p2 p3 p4 p5 base node next n apart s2 s3 s4 s5 =
           ∙ stays node.page node.at null_address p1 p2 base.page (base.at + 10) s2 (node10 node.at (omega arith) (omega arith)),
     )
 
+-- a node put in front: five writes make the new list
 pub added_first : (p0 p1 p2 p3 p4 p5 : Pages) (base node : Address) (nodes : List Address)
     → IsList p0 base nodes → IsNodePlace (length p0) node → IsApartFromAll (list_spans base nodes) (node_span node)
     → SetsAddress (back_place base (first_of nodes)).page (back_place base (first_of nodes)).at node p0 p1
@@ -157,10 +167,12 @@ same_link None (Some b) count few px py same = absurd (let e : null_page ≡ b.p
 same_link (Some a) None count few px py same = absurd (let e : a.page ≡ null_page = ap (λ (b : Address). b.page) same in omega (arith, e, px.page))
 same_link (Some a) (Some b) count few px py same = ap Some same
 
+-- a link to a node or to none is allowed
 pub link_allowed : (x : Option Address) (count : ℕ) → IfSome x (IsNodePlace count) → IsLink count (or_null x)
 link_allowed None count place = inl refl
 link_allowed (Some a) count place = inr place
 
+-- the first node of a walk has its place
 pub first_place : (pages : Pages) (before : Address) (nodes : List Address) (after : Address) → IsWalk pages before nodes after → IfSome (first_of nodes) (IsNodePlace (length pages))
 first_place pages before [] after walk = tt
 first_place pages before (a ∷ more) after walk = walk.0
