@@ -3,34 +3,36 @@ use Rattle.std.proofs.Common.{◌≡◌, ℕ, ◌+◌, List, [], ◌∷◌, ◌+
 use Rattle.page_model.specs.Pages.{Pages, Address, null_address}
 use Rattle.page_model.specs.Spans.{IsApartFromAll, SetsAddress, SetsField}
 use Rattle.page_model.specs.Lists.{IsNodePlace, IsList, first_of, last_of, or_null, back_place, on_place, list_spans, node_span}
-use Rattle.page_model.specs.Steps.{PageState, Uses, Told, Becomes}
-use Rattle.page_model.proofs.StepLemmas.{uses_within, uses_other, uses_nowhere, told_step, within_one, within_two}
+use Rattle.page_model.specs.Steps.{PageState, Uses, Reaches, Told, Becomes}
+use Rattle.page_model.proofs.StepLemmas.{IsReached, uses_in, uses_near, reaches_nowhere, told_step, within_one, within_two}
 use Rattle.page_model.proofs.WalkLemmas.{added_first}
 use Rattle.file_lists.specs.Changes.{ChangesList}
 use Rattle.file_lists.proofs.EndLemmas.{added_last}
 
 -- what the calls have used so far: the length and an end are read, another node is written, the node twice, the base twice
-module _ {T : Type 0} {state : T → PageState} {stays : T → T → Type 0} (add : (a b c : T) → stays a b → stays b c → stays a c) (node base q : ℕ) (s : T) where
-  pub uses1 : stays s s → (a : T) → Uses state stays (base ∷ []) 0 0 s a → Uses state stays (node ∷ base ∷ []) 0 0 s a
-  uses1 still a u1 = uses_within add (node ∷ base ∷ []) (base ∷ []) 0 0 0 0 s s a (within_two node base []) (uses_nowhere (node ∷ base ∷ []) s still) u1
+module _ {T : Type 0} {state : T → PageState} {stays : T → T → Type 0} (add : (a b c : T) → stays a b → stays b c → stays a c) (near : Option (List ℕ)) (node base : ℕ) (s : T) where
+  pub uses1 : stays s s → (a : T) → Uses state stays (base ∷ []) 0 0 s a → Reaches state stays near (node ∷ base ∷ []) 0 0 s a
+  uses1 still a u1 = uses_in add near (node ∷ base ∷ []) (base ∷ []) 0 0 0 s s a (within_two node base []) (reaches_nowhere near (node ∷ base ∷ []) s still) u1
 
-  pub uses2 : stays s s → (a b : T) → Uses state stays (base ∷ []) 0 0 s a → Uses state stays (base ∷ []) 0 0 a b → Uses state stays (node ∷ base ∷ []) 0 0 s b
-  uses2 still a b u1 u2 = uses_within add (node ∷ base ∷ []) (base ∷ []) 0 0 0 0 s a b (within_two node base []) (uses1 still a u1) u2
+  pub uses2 : stays s s → (a b : T) → Uses state stays (base ∷ []) 0 0 s a → Uses state stays (base ∷ []) 0 0 a b → Reaches state stays near (node ∷ base ∷ []) 0 0 s b
+  uses2 still a b u1 u2 = uses_in add near (node ∷ base ∷ []) (base ∷ []) 0 0 0 s a b (within_two node base []) (uses1 still a u1) u2
 
-  pub uses3 : stays s s → (a b d : T) → Uses state stays (base ∷ []) 0 0 s a → Uses state stays (base ∷ []) 0 0 a b → Uses state stays (q ∷ []) 0 14 b d → Uses state stays (node ∷ base ∷ []) 1 14 s d
-  uses3 still a b d u1 u2 u3 = uses_other add (node ∷ base ∷ []) q 0 0 14 s b d (uses2 still a b u1 u2) u3
+-- the same behind the pages near
+module _ {T : Type 0} {state : T → PageState} {stays : T → T → Type 0} (add : (a b c : T) → stays a b → stays b c → stays a c) (near : Option (List ℕ)) (node base q : ℕ) (to_q : IsReached near (node ∷ base ∷ []) q) (s : T) where
+  pub uses3 : stays s s → (a b d : T) → Uses state stays (base ∷ []) 0 0 s a → Uses state stays (base ∷ []) 0 0 a b → Uses state stays (q ∷ []) 0 14 b d → Reaches state stays near (node ∷ base ∷ []) 1 14 s d
+  uses3 still a b d u1 u2 u3 = uses_near add near (node ∷ base ∷ []) q 0 0 14 s b d to_q (uses2 add near node base s still a b u1 u2) u3
 
-  pub uses4 : stays s s → (a b d e : T) → Uses state stays (base ∷ []) 0 0 s a → Uses state stays (base ∷ []) 0 0 a b → Uses state stays (q ∷ []) 0 14 b d → Uses state stays (node ∷ []) 0 14 d e → Uses state stays (node ∷ base ∷ []) 1 28 s e
-  uses4 still a b d e u1 u2 u3 u4 = uses_within add (node ∷ base ∷ []) (node ∷ []) 1 14 0 14 s d e (within_one node (base ∷ [])) (uses3 still a b d u1 u2 u3) u4
+  pub uses4 : stays s s → (a b d e : T) → Uses state stays (base ∷ []) 0 0 s a → Uses state stays (base ∷ []) 0 0 a b → Uses state stays (q ∷ []) 0 14 b d → Uses state stays (node ∷ []) 0 14 d e → Reaches state stays near (node ∷ base ∷ []) 1 28 s e
+  uses4 still a b d e u1 u2 u3 u4 = uses_in add near (node ∷ base ∷ []) (node ∷ []) 1 14 14 s d e (within_one node (base ∷ [])) (uses3 still a b d u1 u2 u3) u4
 
-  pub uses5 : stays s s → (a b d e f : T) → Uses state stays (base ∷ []) 0 0 s a → Uses state stays (base ∷ []) 0 0 a b → Uses state stays (q ∷ []) 0 14 b d → Uses state stays (node ∷ []) 0 14 d e → Uses state stays (node ∷ []) 0 14 e f → Uses state stays (node ∷ base ∷ []) 1 42 s f
-  uses5 still a b d e f u1 u2 u3 u4 u5 = uses_within add (node ∷ base ∷ []) (node ∷ []) 1 28 0 14 s e f (within_one node (base ∷ [])) (uses4 still a b d e u1 u2 u3 u4) u5
+  pub uses5 : stays s s → (a b d e f : T) → Uses state stays (base ∷ []) 0 0 s a → Uses state stays (base ∷ []) 0 0 a b → Uses state stays (q ∷ []) 0 14 b d → Uses state stays (node ∷ []) 0 14 d e → Uses state stays (node ∷ []) 0 14 e f → Reaches state stays near (node ∷ base ∷ []) 1 42 s f
+  uses5 still a b d e f u1 u2 u3 u4 u5 = uses_in add near (node ∷ base ∷ []) (node ∷ []) 1 28 14 s e f (within_one node (base ∷ [])) (uses4 still a b d e u1 u2 u3 u4) u5
 
-  pub uses6 : stays s s → (a b d e f i : T) → Uses state stays (base ∷ []) 0 0 s a → Uses state stays (base ∷ []) 0 0 a b → Uses state stays (q ∷ []) 0 14 b d → Uses state stays (node ∷ []) 0 14 d e → Uses state stays (node ∷ []) 0 14 e f → Uses state stays (base ∷ []) 0 14 f i → Uses state stays (node ∷ base ∷ []) 1 56 s i
-  uses6 still a b d e f i u1 u2 u3 u4 u5 u6 = uses_within add (node ∷ base ∷ []) (base ∷ []) 1 42 0 14 s f i (within_two node base []) (uses5 still a b d e f u1 u2 u3 u4 u5) u6
+  pub uses6 : stays s s → (a b d e f i : T) → Uses state stays (base ∷ []) 0 0 s a → Uses state stays (base ∷ []) 0 0 a b → Uses state stays (q ∷ []) 0 14 b d → Uses state stays (node ∷ []) 0 14 d e → Uses state stays (node ∷ []) 0 14 e f → Uses state stays (base ∷ []) 0 14 f i → Reaches state stays near (node ∷ base ∷ []) 1 56 s i
+  uses6 still a b d e f i u1 u2 u3 u4 u5 u6 = uses_in add near (node ∷ base ∷ []) (base ∷ []) 1 42 14 s f i (within_two node base []) (uses5 still a b d e f u1 u2 u3 u4 u5) u6
 
-  pub uses7 : stays s s → (a b d e f i j : T) → Uses state stays (base ∷ []) 0 0 s a → Uses state stays (base ∷ []) 0 0 a b → Uses state stays (q ∷ []) 0 14 b d → Uses state stays (node ∷ []) 0 14 d e → Uses state stays (node ∷ []) 0 14 e f → Uses state stays (base ∷ []) 0 14 f i → Uses state stays (base ∷ []) 0 12 i j → Uses state stays (node ∷ base ∷ []) 1 68 s j
-  uses7 still a b d e f i j u1 u2 u3 u4 u5 u6 u7 = uses_within add (node ∷ base ∷ []) (base ∷ []) 1 56 0 12 s i j (within_two node base []) (uses6 still a b d e f i u1 u2 u3 u4 u5 u6) u7
+  pub uses7 : stays s s → (a b d e f i j : T) → Uses state stays (base ∷ []) 0 0 s a → Uses state stays (base ∷ []) 0 0 a b → Uses state stays (q ∷ []) 0 14 b d → Uses state stays (node ∷ []) 0 14 d e → Uses state stays (node ∷ []) 0 14 e f → Uses state stays (base ∷ []) 0 14 f i → Uses state stays (base ∷ []) 0 12 i j → Reaches state stays near (node ∷ base ∷ []) 1 68 s j
+  uses7 still a b d e f i j u1 u2 u3 u4 u5 u6 u7 = uses_in add near (node ∷ base ∷ []) (base ∷ []) 1 56 12 s i j (within_two node base []) (uses6 still a b d e f i u1 u2 u3 u4 u5 u6) u7
 
 pub adds_first : (t2 t3 t4 t5 t6 t7 : Option Pages) (pages : Pages) (base node : Address) (nodes : List Address) (x : Option Address) (n : ℕ)
     → t2 ≡ Some pages → IsList pages base nodes → IsNodePlace (length pages) node → IsApartFromAll (list_spans base nodes) (node_span node) → x ≡ first_of nodes → n ≡ length nodes

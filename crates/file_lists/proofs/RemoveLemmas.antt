@@ -4,30 +4,32 @@ use Rattle.std.proofs.lemmas.List.{length-append}
 use Rattle.page_model.specs.Pages.{Pages, Address}
 use Rattle.page_model.specs.Spans.{SetsAddress, SetsField}
 use Rattle.page_model.specs.Lists.{IsList, first_of, last_of, or_null, back_place, on_place}
-use Rattle.page_model.specs.Steps.{PageState, Uses, Told, Becomes}
-use Rattle.page_model.proofs.StepLemmas.{uses_within, uses_other, uses_nowhere, told_step, within_one, within_two}
+use Rattle.page_model.specs.Steps.{PageState, Uses, Reaches, Told, Becomes}
+use Rattle.page_model.proofs.StepLemmas.{IsReached, uses_in, uses_near, reaches_nowhere, told_step, within_one, within_two}
 use Rattle.page_model.proofs.UnlinkLemmas.{removed}
 use Rattle.file_lists.specs.Changes.{ChangesList}
 
 -- what the calls have used so far: the length and the node are read, its two neighbours are written, and the length
-module _ {T : Type 0} {state : T → PageState} {stays : T → T → Type 0} (add : (a b c : T) → stays a b → stays b c → stays a c) (node base q r : ℕ) (s : T) where
-  pub uses1 : stays s s → (a : T) → Uses state stays (base ∷ []) 0 0 s a → Uses state stays (node ∷ base ∷ []) 0 0 s a
-  uses1 still a u1 = uses_within add (node ∷ base ∷ []) (base ∷ []) 0 0 0 0 s s a (within_two node base []) (uses_nowhere (node ∷ base ∷ []) s still) u1
+module _ {T : Type 0} {state : T → PageState} {stays : T → T → Type 0} (add : (a b c : T) → stays a b → stays b c → stays a c) (near : Option (List ℕ)) (node base : ℕ) (s : T) where
+  pub uses1 : stays s s → (a : T) → Uses state stays (base ∷ []) 0 0 s a → Reaches state stays near (node ∷ base ∷ []) 0 0 s a
+  uses1 still a u1 = uses_in add near (node ∷ base ∷ []) (base ∷ []) 0 0 0 s s a (within_two node base []) (reaches_nowhere near (node ∷ base ∷ []) s still) u1
 
-  pub uses2 : stays s s → (a b : T) → Uses state stays (base ∷ []) 0 0 s a → Uses state stays (node ∷ []) 0 0 a b → Uses state stays (node ∷ base ∷ []) 0 0 s b
-  uses2 still a b u1 u2 = uses_within add (node ∷ base ∷ []) (node ∷ []) 0 0 0 0 s a b (within_one node (base ∷ [])) (uses1 still a u1) u2
+  pub uses2 : stays s s → (a b : T) → Uses state stays (base ∷ []) 0 0 s a → Uses state stays (node ∷ []) 0 0 a b → Reaches state stays near (node ∷ base ∷ []) 0 0 s b
+  uses2 still a b u1 u2 = uses_in add near (node ∷ base ∷ []) (node ∷ []) 0 0 0 s a b (within_one node (base ∷ [])) (uses1 still a u1) u2
 
-  pub uses3 : stays s s → (a b d : T) → Uses state stays (base ∷ []) 0 0 s a → Uses state stays (node ∷ []) 0 0 a b → Uses state stays (node ∷ []) 0 0 b d → Uses state stays (node ∷ base ∷ []) 0 0 s d
-  uses3 still a b d u1 u2 u3 = uses_within add (node ∷ base ∷ []) (node ∷ []) 0 0 0 0 s b d (within_one node (base ∷ [])) (uses2 still a b u1 u2) u3
+  pub uses3 : stays s s → (a b d : T) → Uses state stays (base ∷ []) 0 0 s a → Uses state stays (node ∷ []) 0 0 a b → Uses state stays (node ∷ []) 0 0 b d → Reaches state stays near (node ∷ base ∷ []) 0 0 s d
+  uses3 still a b d u1 u2 u3 = uses_in add near (node ∷ base ∷ []) (node ∷ []) 0 0 0 s b d (within_one node (base ∷ [])) (uses2 still a b u1 u2) u3
 
-  pub uses4 : stays s s → (a b d e : T) → Uses state stays (base ∷ []) 0 0 s a → Uses state stays (node ∷ []) 0 0 a b → Uses state stays (node ∷ []) 0 0 b d → Uses state stays (q ∷ []) 0 14 d e → Uses state stays (node ∷ base ∷ []) 1 14 s e
-  uses4 still a b d e u1 u2 u3 u4 = uses_other add (node ∷ base ∷ []) q 0 0 14 s d e (uses3 still a b d u1 u2 u3) u4
+-- the same behind the pages near
+module _ {T : Type 0} {state : T → PageState} {stays : T → T → Type 0} (add : (a b c : T) → stays a b → stays b c → stays a c) (near : Option (List ℕ)) (node base q r : ℕ) (to_q : IsReached near (node ∷ base ∷ []) q) (to_r : IsReached near (node ∷ base ∷ []) r) (s : T) where
+  pub uses4 : stays s s → (a b d e : T) → Uses state stays (base ∷ []) 0 0 s a → Uses state stays (node ∷ []) 0 0 a b → Uses state stays (node ∷ []) 0 0 b d → Uses state stays (q ∷ []) 0 14 d e → Reaches state stays near (node ∷ base ∷ []) 1 14 s e
+  uses4 still a b d e u1 u2 u3 u4 = uses_near add near (node ∷ base ∷ []) q 0 0 14 s d e to_q (uses3 add near node base s still a b d u1 u2 u3) u4
 
-  pub uses5 : stays s s → (a b d e f : T) → Uses state stays (base ∷ []) 0 0 s a → Uses state stays (node ∷ []) 0 0 a b → Uses state stays (node ∷ []) 0 0 b d → Uses state stays (q ∷ []) 0 14 d e → Uses state stays (r ∷ []) 0 14 e f → Uses state stays (node ∷ base ∷ []) 2 28 s f
-  uses5 still a b d e f u1 u2 u3 u4 u5 = uses_other add (node ∷ base ∷ []) r 1 14 14 s e f (uses4 still a b d e u1 u2 u3 u4) u5
+  pub uses5 : stays s s → (a b d e f : T) → Uses state stays (base ∷ []) 0 0 s a → Uses state stays (node ∷ []) 0 0 a b → Uses state stays (node ∷ []) 0 0 b d → Uses state stays (q ∷ []) 0 14 d e → Uses state stays (r ∷ []) 0 14 e f → Reaches state stays near (node ∷ base ∷ []) 2 28 s f
+  uses5 still a b d e f u1 u2 u3 u4 u5 = uses_near add near (node ∷ base ∷ []) r 1 14 14 s e f to_r (uses4 still a b d e u1 u2 u3 u4) u5
 
-  pub uses6 : stays s s → (a b d e f i : T) → Uses state stays (base ∷ []) 0 0 s a → Uses state stays (node ∷ []) 0 0 a b → Uses state stays (node ∷ []) 0 0 b d → Uses state stays (q ∷ []) 0 14 d e → Uses state stays (r ∷ []) 0 14 e f → Uses state stays (base ∷ []) 0 12 f i → Uses state stays (node ∷ base ∷ []) 2 40 s i
-  uses6 still a b d e f i u1 u2 u3 u4 u5 u6 = uses_within add (node ∷ base ∷ []) (base ∷ []) 2 28 0 12 s f i (within_two node base []) (uses5 still a b d e f u1 u2 u3 u4 u5) u6
+  pub uses6 : stays s s → (a b d e f i : T) → Uses state stays (base ∷ []) 0 0 s a → Uses state stays (node ∷ []) 0 0 a b → Uses state stays (node ∷ []) 0 0 b d → Uses state stays (q ∷ []) 0 14 d e → Uses state stays (r ∷ []) 0 14 e f → Uses state stays (base ∷ []) 0 12 f i → Reaches state stays near (node ∷ base ∷ []) 2 40 s i
+  uses6 still a b d e f i u1 u2 u3 u4 u5 u6 = uses_in add near (node ∷ base ∷ []) (base ∷ []) 2 28 12 s f i (within_two node base []) (uses5 still a b d e f u1 u2 u3 u4 u5) u6
 
 pub removes : (t3 t4 t5 t6 : Option Pages) (pages : Pages) (base node : Address) (xs ys : List Address) (x y : Option Address) (n : ℕ)
     → t3 ≡ Some pages → IsList pages base (xs ++ node ∷ ys) → x ≡ last_of xs → y ≡ first_of ys → n ≡ length (xs ++ node ∷ ys)

@@ -1,3 +1,4 @@
 pub mod Changes
 pub mod Links
+pub mod Near
 pub mod Strange

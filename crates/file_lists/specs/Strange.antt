@@ -10,7 +10,7 @@ use Rattle.page_model.specs.Steps.{PageState}
 use Rattle.engine_base.specs.Faults.{Oddity}
 use Rattle.engine_base.specs.declared.fault.Fault.{Fault}
 use Rattle.engine_base.specs.declared.fault.Fault.TheVariants.{Device, Strange}
-use Rattle.file_lists.specs.declared.layout.TheConstants.{FIRST, LAST, NEXT, GREATEST_LENGTH}
+use Rattle.file_lists.specs.declared.layout.TheConstants.{FIRST, LAST, NEXT, MAX_LENGTH}
 
 -- a page that an address may have
 abbrev pub IsLinkPage : ℕ → ℕ → Type 0
@@ -42,7 +42,7 @@ pub record IsLength (told : Option Pages) (base : Address) (page at value : ℕ)
 
 pub record IsFull (told : Option Pages) (base : Address) (page at value : ℕ) : Type 0 where
   pub here : IsLength told base page at value
-  pub greatest : value ≡ GREATEST_LENGTH
+  pub greatest : value ≡ MAX_LENGTH
 
 pub record IsBare (told : Option Pages) (base : Address) (page at value : ℕ) : Type 0 where
   pub here : IsLength told base page at value

@@ -3,13 +3,14 @@
 ghost use Rattle.std.specs.Prelude.{◌≡◌, ◌+◌, ◌*◌, ◌<◌, ◌^◌, ℕ, List, [], ◌∷◌, ◌++◌, length, Some, IfErr, OnOk};
 ghost use Rattle.page_model.specs.Pages.{Pages, Address};
 ghost use Rattle.page_model.specs.Lists.{IsBasePlace, IsNodePlace, IsList, IfListed};
-ghost use Rattle.page_model.specs.Steps.{MayUse, Uses, Becomes, write_head};
+ghost use Rattle.page_model.specs.Steps.{MayReach, Reaches, Becomes, write_head};
 ghost use Rattle.engine_base.specs.Faults.{HasCause, FailsPlainly, IsHonest};
 ghost use Rattle.engine_base.specs.Addresses.{address_of};
 ghost use Rattle.file_lists.specs.Changes.{IsElsewhere, ChangesList};
+ghost use Rattle.file_lists.specs.Near.{near_front, near_back, near_node};
 ghost use Rattle.file_lists.specs.Strange.{IsOddAtFront, IsOddAtBack, IsOddAround};
 
-use crate::layout::{FIRST, GREATEST_LENGTH, LAST, NEXT};
+use crate::layout::{FIRST, LAST, MAX_LENGTH, NEXT};
 use crate::links::{point_back, point_on, read_link, write_link};
 use engine_base::{Addr, Fault, Pages, read_field, strange, write_field};
 
@@ -18,7 +19,8 @@ use engine_base::{Addr, Fault, Pages, read_field, strange, write_field};
 pub fn add_first<P: Pages>(p: &mut P, base: Addr, node: Addr) -> Result<(), Fault>
     requires base { IsBasePlace (P.state p.old).count (address_of base) }
     requires node { IsNodePlace (P.state p.old).count (address_of node) }
-    requires may { MayUse (node.page.0 ∷ base.page.0 ∷ []) 1 (28 + 5 * write_head) (P.state p.old) }
+    requires may { MayReach (near_front (P.state p.old) (address_of base))
+        (node.page.0 ∷ base.page.0 ∷ []) 1 (28 + 5 * write_head) (P.state p.old) }
     ensures adds { IfListed (P.state p.old).told (address_of base) (λ pages nodes.
         IsElsewhere (address_of base) nodes (address_of node) → length nodes + 1 < 2 ^ 32
         → OnOk result (Becomes (P.state p.new).told (λ new. let all = address_of node ∷ nodes in
@@ -30,10 +32,11 @@ pub fn add_first<P: Pages>(p: &mut P, base: Addr, node: Addr) -> Result<(), Faul
         length nodes + 1 < 2 ^ 32 → FailsPlainly result) }
     ensures cause { HasCause (P.state p.old).faults (P.state p.new).faults result }
 
-    ensures uses { Uses P.state P.stays (node.page.0 ∷ base.page.0 ∷ []) 1 (28 + 5 * write_head) p.old p.new }
+    ensures uses { Reaches P.state P.stays (near_front (P.state p.old) (address_of base))
+        (node.page.0 ∷ base.page.0 ∷ []) 1 (28 + 5 * write_head) p.old p.new }
 {
     let len = read_field(p, base.page, base.at, 4)?;
-    if len == GREATEST_LENGTH {
+    if len == MAX_LENGTH {
         return strange(base.page, base.at, len);
     }
     let old = read_link(p, base.page, base.at + FIRST)?;
@@ -50,7 +53,8 @@ pub fn add_first<P: Pages>(p: &mut P, base: Addr, node: Addr) -> Result<(), Faul
 pub fn add_last<P: Pages>(p: &mut P, base: Addr, node: Addr) -> Result<(), Fault>
     requires base { IsBasePlace (P.state p.old).count (address_of base) }
     requires node { IsNodePlace (P.state p.old).count (address_of node) }
-    requires may { MayUse (node.page.0 ∷ base.page.0 ∷ []) 1 (28 + 5 * write_head) (P.state p.old) }
+    requires may { MayReach (near_back (P.state p.old) (address_of base))
+        (node.page.0 ∷ base.page.0 ∷ []) 1 (28 + 5 * write_head) (P.state p.old) }
     ensures adds { IfListed (P.state p.old).told (address_of base) (λ pages nodes.
         IsElsewhere (address_of base) nodes (address_of node) → length nodes + 1 < 2 ^ 32
         → OnOk result (Becomes (P.state p.new).told (λ new. let all = nodes ++ address_of node ∷ [] in
@@ -62,10 +66,11 @@ pub fn add_last<P: Pages>(p: &mut P, base: Addr, node: Addr) -> Result<(), Fault
         length nodes + 1 < 2 ^ 32 → FailsPlainly result) }
     ensures cause { HasCause (P.state p.old).faults (P.state p.new).faults result }
 
-    ensures uses { Uses P.state P.stays (node.page.0 ∷ base.page.0 ∷ []) 1 (28 + 5 * write_head) p.old p.new }
+    ensures uses { Reaches P.state P.stays (near_back (P.state p.old) (address_of base))
+        (node.page.0 ∷ base.page.0 ∷ []) 1 (28 + 5 * write_head) p.old p.new }
 {
     let len = read_field(p, base.page, base.at, 4)?;
-    if len == GREATEST_LENGTH {
+    if len == MAX_LENGTH {
         return strange(base.page, base.at, len);
     }
     let old = read_link(p, base.page, base.at + LAST)?;
@@ -82,7 +87,8 @@ pub fn add_last<P: Pages>(p: &mut P, base: Addr, node: Addr) -> Result<(), Fault
 pub fn remove<P: Pages>(p: &mut P, base: Addr, node: Addr) -> Result<(), Fault>
     requires base { IsBasePlace (P.state p.old).count (address_of base) }
     requires node { IsNodePlace (P.state p.old).count (address_of node) }
-    requires may { MayUse (node.page.0 ∷ base.page.0 ∷ []) 2 (16 + 3 * write_head) (P.state p.old) }
+    requires may { MayReach (near_node (P.state p.old) (address_of node))
+        (node.page.0 ∷ base.page.0 ∷ []) 2 (16 + 3 * write_head) (P.state p.old) }
     ensures removes { (pages : Pages) (before behind : List Address) → (P.state p.old).told ≡ Some pages
         → IsList pages (address_of base) (before ++ address_of node ∷ behind)
         → OnOk result (Becomes (P.state p.new).told (λ new.
@@ -94,7 +100,8 @@ pub fn remove<P: Pages>(p: &mut P, base: Addr, node: Addr) -> Result<(), Fault>
         → IsList pages (address_of base) (before ++ address_of node ∷ behind) → FailsPlainly result }
     ensures cause { HasCause (P.state p.old).faults (P.state p.new).faults result }
 
-    ensures uses { Uses P.state P.stays (node.page.0 ∷ base.page.0 ∷ []) 2 (16 + 3 * write_head) p.old p.new }
+    ensures uses { Reaches P.state P.stays (near_node (P.state p.old) (address_of node))
+        (node.page.0 ∷ base.page.0 ∷ []) 2 (16 + 3 * write_head) p.old p.new }
 {
     let len = read_field(p, base.page, base.at, 4)?;
     if len == 0 {

@@ -7,11 +7,17 @@
 //! | 4 | 6 | address of the first node | 6 | 6 | address of the node behind |
 //! | 10 | 6 | address of the last node | | | |
 
+use engine_base::PAGE_BYTES;
+
 pub const FIRST: u16 = 4;
 
-pub const LAST: u16 = FIRST + 6;
+pub const FIRST_AT: u16 = FIRST + 4;
 
-pub const BASE_SIZE: u16 = LAST + 6;
+pub const LAST: u16 = FIRST_AT + 2;
+
+pub const LAST_AT: u16 = LAST + 4;
+
+pub const BASE_SIZE: u16 = LAST_AT + 2;
 
 pub const NEXT: u16 = 6;
 
@@ -24,10 +30,7 @@ const _: () = prove!(BASE_SIZE == 16);
 const _: () = prove!(NODE_SIZE == 12);
 
 /// The last place in a page at which a node fits.
-pub const LAST_PLACE: u16 = 16_384 - NODE_SIZE;
+pub const MAX_PLACE: u16 = PAGE_BYTES as u16 - NODE_SIZE;
 
 /// The length of a list that takes no further node.
-pub const GREATEST_LENGTH: u64 = 0xffff_ffff;
-
-/// The page of the null address, whose offset is 0.
-pub const NULL_PAGE: u32 = 0xffff_ffff;
+pub const MAX_LENGTH: u64 = 0xffff_ffff;

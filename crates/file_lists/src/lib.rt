@@ -2,11 +2,13 @@
 //! behind it. A list is its nodes' addresses, from the first to the last.
 #![tactic(auto)]
 
+mod bases;
 mod changes;
 mod layout;
 mod links;
 mod reads;
 
+pub use bases::make_base;
 pub use changes::{add_first, add_last, remove};
 pub use reads::{first, last, len, next};
 

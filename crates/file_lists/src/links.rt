@@ -9,8 +9,8 @@ ghost use Rattle.engine_base.specs.Addresses.{address_of};
 ghost use Rattle.file_lists.specs.Links.{link_of};
 ghost use Rattle.file_lists.specs.Strange.{IsOddLink, NamesPart};
 
-use crate::layout::{FIRST, LAST, LAST_PLACE, NEXT, NULL_PAGE};
-use engine_base::{Addr, Fault, PageNo, Pages, read_address, strange, write_address};
+use crate::layout::{FIRST, LAST, MAX_PLACE, NEXT};
+use engine_base::{Addr, Fault, NULL_PAGE, PageNo, Pages, read_address, strange, write_address};
 
 /// The address of a node, or none, in six bytes of a page. Strange where it is neither null nor the place of a node.
 pub fn read_link<P: Pages>(p: &mut P, page: PageNo, at: u16) -> Result<Option<Addr>, Fault>
@@ -49,7 +49,7 @@ fn link(count: u32, page: PageNo, at: u16, there: Addr) -> Result<Option<Addr>, 
     if there.page.0 >= count {
         return strange(page, at, u64::from(there.page.0));
     }
-    if there.at > LAST_PLACE {
+    if there.at > MAX_PLACE {
         return strange(page, at + 4, u64::from(there.at));
     }
     Ok(Some(there))
@@ -79,10 +79,7 @@ fn address(link: Option<Addr>) -> Addr
 {
     match link {
         Some(a) => a,
-        None => Addr {
-            page: PageNo(NULL_PAGE),
-            at: 0,
-        },
+        None => Addr::NULL,
     }
 }
 

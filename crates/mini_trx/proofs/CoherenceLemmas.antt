@@ -9,9 +9,9 @@ use Rattle.page_model.specs.Steps.{among, different}
 use Rattle.page_model.proofs.FrameLemmas.{page_at-written, page_at-written_other}
 use Rattle.mini_trx.specs.Copies.{PageCopy, page_copy, page_of}
 use Rattle.mini_trx.specs.Pins.{IsPlace}
-use Rattle.mini_trx.specs.Frames.{IsInside, write}
+use Rattle.page_model.specs.Frames.{IsInside, write}
 use Rattle.mini_trx.specs.Caches.{CacheState, KeepsPages, IsCoherent}
-use Rattle.mini_trx.specs.Whole.{whole_written}
+use Rattle.page_model.proofs.WholeLemmas.{whole_written}
 use Rattle.mini_trx.proofs.DistinctLemmas.{different_push, among_push, among_get, apart_get}
 
 -- ---- writes in order

@@ -3,9 +3,9 @@ use Rattle.std.proofs.Common.{◌≡◌, ℕ, ◌+◌, ◌^◌, ◌<◌, ◌≤�
 use Rattle.std.proofs.lemmas.List.Elements.{All-push, All-weaker, All-nil}
 use Rattle.byteorder.specs.Endian.{big_number}
 use Rattle.page_model.specs.Pages.{Write, page_bytes}
-use Rattle.mini_trx.specs.Frames.{frame_bytes, writes_in, greatest_group, write, IsInside, IsFrame, HoldsFrame}
+use Rattle.page_model.specs.Frames.{frame_bytes, writes_in, greatest_group, write, IsInside, IsFrame, HoldsFrame}
 use Rattle.mini_trx.specs.Groups.{KeepsFrame}
-use Rattle.mini_trx.proofs.FrameLemmas.{all_small, frame_read, count_read}
+use Rattle.page_model.proofs.GroupFrameLemmas.{all_small, frame_read, count_read}
 
 -- the buffer's writes are those, and it keeps them
 pub record Keeps (ws : List Write) (items : List ℕ) : Type 0 where

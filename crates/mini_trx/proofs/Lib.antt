@@ -1,10 +1,7 @@
 pub mod CoherenceLemmas
 pub mod DistinctLemmas
-pub mod FrameLemmas
 pub mod GroupLemmas
 pub mod MtrLemmas
-pub mod NumberLemmas
-pub mod ParseLemmas
 pub mod PinLemmas
 pub mod PutLemmas
 pub mod WritesLemmas

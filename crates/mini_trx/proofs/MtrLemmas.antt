@@ -10,10 +10,10 @@ use Rattle.page_model.specs.Steps.{PageState, MayUse, among, different, IsWithin
 use Rattle.page_model.proofs.StepLemmas.{within_both, within_right, within_one}
 use Rattle.mini_trx.specs.Copies.{PageCopy, page_copy, page_of}
 use Rattle.mini_trx.specs.Pins.{IsPlace}
-use Rattle.mini_trx.specs.Frames.{frame_bytes, writes_bytes, write, write_bytes, head_bytes}
+use Rattle.page_model.specs.Frames.{frame_bytes, writes_bytes, write, write_bytes, head_bytes}
 use Rattle.mini_trx.specs.Caches.{CacheState, KeepsPages, IsCoherent, Begins, mtr_state}
 use Rattle.mini_trx.specs.Mtrs.{PinsAtMost}
-use Rattle.mini_trx.proofs.FrameLemmas.{length-frame, writes_more, length-head}
+use Rattle.page_model.proofs.GroupFrameLemmas.{length-frame, writes_more, length-head}
 use Rattle.mini_trx.proofs.CoherenceLemmas.{coherent_kept, coherent_pinned, all_written_push}
 
 -- ---- pinning
@@ -103,6 +103,7 @@ begins c d copies ws told count faults none nothing =
     let l = ap (λ (vs : List Write). length (frame_bytes vs)) nothing in
     record {
       told = subst P (sym nothing) (as_it_is d.told ∙ told);
+      writes = ap Some nothing;
       count = count;
       touched = ap (map page_of) none;
       room = omega (arith, l, length-frame []);

@@ -4,7 +4,7 @@ use Rattle.std.proofs.lemmas.List.{length-set, take_at, get_or_read}
 use Rattle.std.proofs.lemmas.List.Elements.{All-set, All-tail, All-weaker}
 use Rattle.page_model.specs.Pages.{Pages, Write, page_at, patched, written, all_written, page_bytes}
 use Rattle.page_model.proofs.FrameLemmas.{length-patched}
-use Rattle.mini_trx.specs.Frames.{IsInside}
+use Rattle.page_model.specs.Frames.{IsInside}
 
 abbrev pub HasSizes : Pages → Type 0
 HasSizes pages = All (λ page. length page ≡ page_bytes) pages

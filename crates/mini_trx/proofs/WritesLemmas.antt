@@ -2,10 +2,10 @@
 use Rattle.std.proofs.Common.{◌≡◌, ℕ, ◌+◌, ◌-◌, ◌<◌, ◌^◌, List, ◌∷◌, drop, All, add-one, refl, sym, ap, ap₂, subst, ◌∙◌, arith}
 use Rattle.std.proofs.lemmas.List.Elements.{All-tail}
 use Rattle.byteorder.specs.Endian.{big_number}
-use Rattle.mini_trx.specs.Frames.{writes_from, writes_in, write_at_head, writes_bytes, IsInside, BeginsWith}
+use Rattle.page_model.specs.Frames.{writes_from, writes_in, write_at_head, writes_bytes, IsInside, BeginsWith}
 use Rattle.mini_trx.specs.Groups.{KeepsFrame}
-use Rattle.mini_trx.proofs.FrameLemmas.{first_read}
-use Rattle.mini_trx.proofs.ParseLemmas.{body_of}
+use Rattle.page_model.proofs.GroupFrameLemmas.{first_read}
+use Rattle.page_model.proofs.ParseLemmas.{body_of}
 
 -- what a first write leaves
 pub record Step (n : ℕ) (bytes after : List ℕ) : Type 0 where

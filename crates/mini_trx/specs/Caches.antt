@@ -7,7 +7,7 @@ use Rattle.std.specs.Prelude.{◌≡◌, ℕ, ◌-◌, ◌≤◌, Bool, true, Is
 use Rattle.page_model.specs.Pages.{Pages, page_at, Write, all_written}
 use Rattle.page_model.specs.Steps.{PageState, among, different, whole_room}
 use Rattle.mini_trx.specs.Copies.{PageCopy, page_of}
-use Rattle.mini_trx.specs.Frames.{IsInside, frame_bytes, greatest_group}
+use Rattle.page_model.specs.Frames.{IsInside, frame_bytes, greatest_group}
 
 pub record CacheState : Type 0 where
   -- the cache's own pages, where they are told
@@ -37,19 +37,21 @@ pub record IsCoherent (c : CacheState) (copies : List PageCopy) (writes : List W
   pub inside : All (IsInside c.count) writes
   pub bytes : (pages : Pages) → c.told ≡ Some pages → All (λ copy. copy.bytes ≡ page_at (all_written writes pages) copy.page) copies
 
--- the cache's pages with the writes made in them; the pages pinned; and what is left of a whole group
+-- the cache's pages with the writes made in them; these writes; the pages pinned; and what is left of a whole group
 abbrev pub mtr_state : CacheState → List PageCopy → List Write → PageState
 mtr_state c copies writes = record {
   told = option_map (all_written writes) c.told;
+  writes = Some writes;
   count = c.count;
   touched = map page_of copies;
   room = greatest_group - length (frame_bytes writes);
   faults = c.faults;
 }
 
--- a mini-transaction at its beginning: the cache's own pages, none of them pinned, and room for a whole group
+-- a mini-transaction at its beginning: the cache's own pages, no writes, no page pinned, and room for a whole group
 pub record Begins (c : CacheState) (s : PageState) : Type 0 where
   pub told : s.told ≡ c.told
+  pub writes : s.writes ≡ Some []
   pub count : s.count ≡ c.count
   pub touched : s.touched ≡ []
   pub room : s.room ≡ whole_room

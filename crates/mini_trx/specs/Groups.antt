@@ -1,7 +1,7 @@
 -- What a contract sees of a group: its writes in their order, and how many bytes its buffer has room for.
 use Rattle.std.specs.Prelude.{◌≡◌, ℕ, ◌≤◌, ◌^◌, List, length, All}
 use Rattle.page_model.specs.Pages.{Write}
-use Rattle.mini_trx.specs.Frames.{frame_bytes, writes_in, greatest_group, IsInside}
+use Rattle.page_model.specs.Frames.{frame_bytes, writes_in, greatest_group, IsInside}
 
 pub record GroupView : Type 0 where
   pub writes : List Write

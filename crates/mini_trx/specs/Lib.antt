@@ -1,11 +1,9 @@
 pub mod Caches
 pub mod Copies
-pub mod Frames
 pub mod Groups
 pub mod Mtrs
 pub mod PageWrites
 pub mod Pins
 pub mod ResidentLaws
 pub mod Residents
-pub mod Whole
 pub mod WritesLeft

@@ -3,7 +3,7 @@ ghost use Rattle.std.specs.Prelude.{◌≡◌, ◌+◌, ◌-◌, ◌≤◌, ◌<
 ghost use Rattle.page_model.specs.Pages.{AreWhole, page_at};
 ghost use Rattle.page_model.specs.Steps.{most_pins};
 ghost use Rattle.engine_base.specs.Faults.{HasCause, FailsPlainly};
-ghost use Rattle.mini_trx.specs.Frames.{greatest_group};
+ghost use Rattle.page_model.specs.Frames.{greatest_group};
 ghost use Rattle.mini_trx.specs.Caches.{CacheState, KeepsPages};
 
 use engine_base::{Fault, PageBuf, PageNo};

@@ -2,21 +2,16 @@
 ghost use Rattle.std.specs.Prelude.{◌≡◌, ◌+◌, ◌≤◌, ◌<◌, ◌++◌, ◌^◌, ℕ, [], ◌∷◌, List, length, drop, vec_len, vec_capacity, slice_index_or, IsTrue, IfSome, IfNone, ◌↔◌};
 ghost use Rattle.byteorder.specs.Endian.{big_number};
 ghost use Rattle.page_model.specs.Pages.{Write};
-ghost use Rattle.mini_trx.specs.Frames.{header_bytes, head_bytes, frame_bytes, write, greatest_group, writes_in, BeginsWith, HasHeader, HasWrites, HoldsFrame};
+ghost use Rattle.page_model.specs.Frames.{header_bytes, head_bytes, frame_bytes, write, greatest_group, writes_in, BeginsWith, HasHeader, HasWrites, HoldsFrame};
 ghost use Rattle.mini_trx.specs.Groups.{KeepsFrame};
 ghost use Rattle.mini_trx.specs.PageWrites.{write_of};
 
 use crate::PageWrite;
 use byteorder::{BigEndian, ByteOrder};
-use engine_base::PageNo;
+use engine_base::{MAX_GROUP, PAGE_BYTES, PageNo};
 
 /// The length of a frame without writes, in front of which stand its whole length and the number of its writes.
 pub(crate) const HEADER: usize = 6;
-
-/// How many bytes the frame of a full group has.
-pub(crate) const GREATEST: usize = 262_144;
-
-const PAGE: usize = 16_384;
 
 /// The length of what stands in front of a write's bytes: page, offset and length.
 pub(crate) const WRITE_HEAD: usize = 8;
@@ -115,7 +110,7 @@ fn has_header(bytes: &[u8]) -> bool
     ensures { IsTrue result ↔ HasHeader bytes.now }
 {
     let len = bytes.len();
-    HEADER <= len && len <= GREATEST && BigEndian::read_u32(bytes) as usize == len
+    HEADER <= len && len <= MAX_GROUP && BigEndian::read_u32(bytes) as usize == len
 }
 
 // Whether the bytes are so many writes within the pages, and no more.
@@ -144,7 +139,7 @@ fn behind_write(bytes: &[u8], pages: u32) -> Option<&[u8]>
     let at = usize::from(BigEndian::read_u16(&bytes[4..]));
     let len = usize::from(BigEndian::read_u16(&bytes[6..]));
     let end = WRITE_HEAD + len;
-    if page < pages && at + len <= PAGE && end <= bytes.len() {
+    if page < pages && at + len <= PAGE_BYTES && end <= bytes.len() {
         Some(&bytes[end..])
     } else {
         None

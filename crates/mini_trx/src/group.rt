@@ -2,7 +2,7 @@
 ghost use Rattle.std.specs.Prelude.{◌≡◌, ◌+◌, ◌≤◌, ◌<◌, ◌++◌, [], ◌∷◌, List, length, vec_capacity, slice_index_or, All, IfOk, IfErr};
 ghost use Rattle.page_model.specs.Pages.{Write, page_bytes};
 ghost use Rattle.page_model.specs.Steps.{write_head};
-ghost use Rattle.mini_trx.specs.Frames.{frame_bytes, greatest_group, write, IsInside, IsFrame, HoldsFrame};
+ghost use Rattle.page_model.specs.Frames.{frame_bytes, greatest_group, write, IsInside, IsFrame, HoldsFrame};
 ghost use Rattle.mini_trx.specs.PageWrites.{write_of};
 
 use crate::{PageWrite, Writes, frame};
@@ -17,7 +17,7 @@ pub struct Group {
 
 impl Model for Group {
     ghost use Rattle.std.specs.Prelude.{vec_capacity};
-    ghost use Rattle.mini_trx.specs.Frames.{writes_in};
+    ghost use Rattle.page_model.specs.Frames.{writes_in};
     ghost use Rattle.mini_trx.specs.Groups.{GroupView, KeepsFrame};
 
     ghost Value = { GroupView };

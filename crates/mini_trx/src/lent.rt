@@ -6,7 +6,7 @@ ghost use Rattle.mini_trx.specs.Pins.{IsPlace};
 ghost use Rattle.mini_trx.specs.Copies.{copy_of, page_copy, page_of};
 
 use arrayvec::ArrayVec;
-use engine_base::{PageBuf, PageNo};
+use engine_base::{MAX_PINS, PageBuf, PageNo};
 use std::marker::Model;
 
 /// A page that is lent: its number, and the frame with the copy.
@@ -19,7 +19,7 @@ pub(crate) struct Lent {
 /// The lent pages in the order of pinning, at most 16.
 #[derive(Drop)]
 pub(crate) struct LentPages {
-    places: ArrayVec<Option<Lent>, 16>,
+    places: ArrayVec<Option<Lent>, MAX_PINS>,
 }
 
 impl Model for LentPages {

@@ -3,7 +3,7 @@ ghost use Rattle.std.specs.Prelude.{◌≡◌, ◌+◌, ◌≤◌, ◌<◌, ◌+
 ghost use Rattle.page_model.specs.Pages.{Write, page_bytes, patched};
 ghost use Rattle.page_model.specs.Steps.{write_head};
 ghost use Rattle.mini_trx.specs.Copies.{PageCopy, page_copy};
-ghost use Rattle.mini_trx.specs.Frames.{frame_bytes, greatest_group, write};
+ghost use Rattle.page_model.specs.Frames.{frame_bytes, greatest_group, write};
 
 use crate::Group;
 use crate::lent::LentPages;

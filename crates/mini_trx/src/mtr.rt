@@ -5,14 +5,13 @@ ghost use Rattle.page_model.specs.Steps.{most_pins, among};
 ghost use Rattle.engine_base.specs.Faults.{HasCause, FailsPlainly};
 ghost use Rattle.mini_trx.specs.Copies.{page_of};
 ghost use Rattle.mini_trx.specs.Pins.{IsPlace};
-ghost use Rattle.mini_trx.specs.Frames.{greatest_group, IsInside};
+ghost use Rattle.page_model.specs.Frames.{greatest_group, IsInside};
 ghost use Rattle.mini_trx.specs.Caches.{IsCoherent, Begins, mtr_state};
 ghost use Rattle.mini_trx.specs.Mtrs.{PinsAtMost};
 
-use crate::frame::GREATEST;
 use crate::lent::LentPages;
 use crate::{Cache, Group, Holdings, Memo};
-use engine_base::{Fault, PageNo, Pages};
+use engine_base::{Fault, MAX_GROUP, PageNo, Pages};
 
 /// A mini-transaction over the pages of a cache. A page is pinned by the first call on it: the cache lends a copy, at most 16 of them,
 /// and all reads and writes work on the copies. No call here takes memory.
@@ -44,7 +43,7 @@ impl<'a, C: Cache> Mtr<'a, C> {
 impl<'a, C: Cache> Pages for Mtr<'a, C> {
     ghost use Rattle.std.specs.Prelude.{◌≡◌, refl};
     ghost use Rattle.std.proofs.Common.{◌∙◌};
-    ghost use Rattle.mini_trx.specs.Whole.{whole_told};
+    ghost use Rattle.page_model.proofs.WholeLemmas.{whole_told};
     ghost use Rattle.mini_trx.specs.Caches.{mtr_state};
 
     ghost state = { λ m. mtr_state (C.state m.cache.now) m.memo.lent m.memo.group.writes };
@@ -68,7 +67,7 @@ impl<'a, C: Cache> Pages for Mtr<'a, C> {
     }
 
     fn room(&self) -> u32 {
-        (GREATEST - self.memo.group.len()) as u32
+        (MAX_GROUP - self.memo.group.len()) as u32
     }
 
     /// Pins the page, and copies the bytes out of its frame.
@@ -125,7 +124,8 @@ impl<'a, C: Cache, H: Holdings> Mtr<'a, C, H> {
     /// Ends with all its writes, in order, as one group. The cache's own pages are as they were until the group is put.
     /// Copies nothing: the group's buffer moves into the result, and the frames back to the cache.
     pub fn commit(self) -> Group
-        ensures writes { result.writes ≡ H.writes self.entry.memo }
+        ensures writes { (mtr_state (C.state self.entry.cache.now) (H.copies self.entry.memo) (H.writes self.entry.memo)).writes
+            ≡ Some result.writes }
         ensures capacity { greatest_group ≤ result.capacity }
         ensures inside { All (IsInside (C.state self.exit.0.now).count) result.writes }
         ensures held { All (λ w. IsTrue ((C.state self.exit.0.now).holds w.page)) result.writes }

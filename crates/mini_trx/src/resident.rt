@@ -3,16 +3,12 @@ ghost use Rattle.std.specs.Prelude.{◌≡◌, ◌≤◌, ◌<◌, ◌^◌, leng
 ghost use Rattle.std.specs.Option.{ForSome};
 ghost use Rattle.page_model.specs.Pages.{page_bytes, all_written};
 ghost use Rattle.page_model.specs.Steps.{most_pins};
-ghost use Rattle.mini_trx.specs.Frames.{greatest_group};
+ghost use Rattle.page_model.specs.Frames.{greatest_group};
 ghost use Rattle.mini_trx.specs.Caches.{Begins};
 
-use crate::frame::GREATEST;
 use crate::{Cache, Group, Mtr};
-use engine_base::{Fault, PageBuf, PageNo, Pages};
+use engine_base::{Fault, MAX_GROUP, MAX_PINS, PageBuf, PageNo, Pages};
 use std::alloc::{AllocError, Global};
-
-// How many frames there are to lend.
-const FRAMES: usize = 16;
 
 /// A cache whose own pages are all in memory. Its `lend` never fails.
 #[derive(Drop)]
@@ -37,8 +33,8 @@ impl Resident {
     {
         Ok(Resident {
             pages: blank_pages(alloc, pages as usize)?,
-            spare: blank_pages(alloc, FRAMES)?,
-            buffer: Some(Vec::with_capacity(alloc, GREATEST)?),
+            spare: blank_pages(alloc, MAX_PINS)?,
+            buffer: Some(Vec::with_capacity(alloc, MAX_GROUP)?),
         })
     }
 
@@ -99,7 +95,7 @@ impl Cache for Resident {
     }
 
     fn give_back(&mut self, frame: PageBuf) {
-        if self.spare.len() < FRAMES {
+        if self.spare.len() < MAX_PINS {
             let _ = self.spare.push(frame);
         }
     }

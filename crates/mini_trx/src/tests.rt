@@ -1,6 +1,6 @@
 ghost use Rattle.std.specs.Prelude.{◌≡◌, ◌<◌, ◌≤◌, [], ◌∷◌, length, All};
 ghost use Rattle.page_model.specs.Steps.{MayUse, Uses};
-ghost use Rattle.mini_trx.specs.Frames.{greatest_group};
+ghost use Rattle.page_model.specs.Frames.{greatest_group};
 ghost use Rattle.mini_trx.specs.Residents.{resident_pages, cache_state, IsIdle};
 
 use crate::{Group, Resident};

@@ -1,5 +1,5 @@
 ghost use Rattle.std.specs.Prelude.{◌≡◌, ◌^◌, All};
-ghost use Rattle.mini_trx.specs.Frames.{writes_bytes, writes_from, writes_in, IsInside};
+ghost use Rattle.page_model.specs.Frames.{writes_bytes, writes_from, writes_in, IsInside};
 ghost use Rattle.mini_trx.specs.Groups.{KeepsFrame};
 
 use crate::PageWrite;

@@ -2,11 +2,7 @@
 //!
 //! | Offset | Bytes | Field |
 //! |---|---|---|
-//! | 0 | 38 | header of a page: |
-//! | 4 | 4 | its number, 0 |
-//! | 8 | 4 | the page before, null |
-//! | 12 | 4 | the page behind, null |
-//! | 24 | 2 | type, 1 for the system page |
+//! | 0 | 38 | header of a page by itself, of number 0 and type 1 |
 //! | 38 | 8 | next transaction id |
 //! | 46 | 8 | commits |
 //! | 54 | 8 | purged commits |
@@ -16,21 +12,11 @@
 //! | 98 | 16 | base of the list of committed undo logs |
 //! | 128 | 4,096 | map of used pages: page k is bit k mod 8, the lowest first, of byte k / 8, and 1 means used |
 
-use engine_base::PageNo;
+use engine_base::{HEADER_BYTES, PageNo, PageType};
 
 pub const SYSTEM: PageNo = PageNo(0);
 
-pub const PAGE_BYTES: usize = 16_384;
-
-pub const PREVIOUS: u16 = 8;
-
-pub const NEXT: u16 = PREVIOUS + 4;
-
-pub const TYPE: u16 = NEXT + 12;
-
-pub const HEADER_END: u16 = TYPE + 14;
-
-pub const NEXT_TRX_ID: u16 = HEADER_END;
+pub const NEXT_TRX_ID: u16 = HEADER_BYTES;
 
 pub const COMMITS: u16 = NEXT_TRX_ID + 8;
 
@@ -48,10 +34,6 @@ pub const MAP: u16 = COMMITTED_LOGS + 30;
 
 pub const MAP_BYTES: usize = 4_096;
 
-const _: () = prove!(NEXT == 12);
-
-const _: () = prove!(TYPE == 24);
-
 const _: () = prove!(NEXT_TRX_ID == 38);
 
 const _: () = prove!(FREE_PAGES == 62);
@@ -67,14 +49,17 @@ const _: () = prove!(MAP == 128);
 const _: () = prove!(MAP as usize + MAP_BYTES == 4_224);
 
 /// The type of the system page.
-pub const SYSTEM_TYPE: u64 = 1;
+pub const SYSTEM_TYPE: u16 = PageType::System as u16;
 
-/// What stands for no page.
-pub const NULL_PAGE: u64 = 0xffff_ffff;
+const _: () = prove!(SYSTEM_TYPE == 1);
 
-/// Where the pages of a base's first and last address stand, from the base on.
+/// Where the addresses of a base's first and last node stand, page and then offset, from the base on.
 pub const FIRST: u16 = 4;
 
-pub const LAST: u16 = FIRST + 6;
+pub const FIRST_AT: u16 = FIRST + 4;
 
-const _: () = prove!(LAST == 10);
+pub const LAST: u16 = FIRST_AT + 2;
+
+pub const LAST_AT: u16 = LAST + 4;
+
+const _: () = prove!(LAST_AT + 2 == 16);

@@ -1,39 +1,73 @@
 use Rattle.std.proofs.Common.{◌≡◌, Ok, lit≤, ◌∙◌, [], ◌∷◌}
 use Rattle.page_model.specs.Pages.{field}
 use Rattle.page_model.specs.Lists.{first_of, last_of}
-use Rattle.page_model.proofs.StepLemmas.{may_within, may_other, uses_at_most, within_one, within_two}
+use Rattle.page_model.proofs.StepLemmas.{may_in, may_near, reaches_at_most, within_one, within_two}
 use Rattle.engine_base.specs.Addresses.{address_of}
 use Rattle.file_lists.specs.Links.{link_of}
 use Rattle.file_lists.proofs.RemoveLemmas.{uses1, uses2, uses3, uses4, uses5, uses6, removes}
 use Rattle.file_lists.proofs.LinkLemmas.{link_read, plain_read, next_link, before_link, at_told, handed_on}
+use Rattle.file_lists.specs.Near.{near_node}
+use Rattle.file_lists.proofs.NearLemmas.{node_before, node_behind}
 use Rattle.file_lists.proofs.changes.remove.Goals as goal
 
 pub read_link-requires-clause-may : goal.read_link-requires-clause-may
-read_link-requires-clause-may g c = may_within _ _ 2 40 0 0 0 0 _ _ (within_one _ (_ ∷ [])) (lit≤ tt) (lit≤ tt) c.requires.may (uses1 g.P.Pages.stays_on _ _ 0 0 _ (g.P.Pages.stays_still _) _ c.read_field.ensures.uses)
+read_link-requires-clause-may g c =
+    let near = near_node (g.P.Pages.state c.args.p.now) (address_of c.args.node) in
+    may_in near _ _ 2 40 0 0 0 _ _ (within_one _ (_ ∷ [])) (lit≤ tt) (lit≤ tt) c.requires.may (uses1 g.P.Pages.stays_on near _ _ _ (g.P.Pages.stays_still _) _ c.read_field.ensures.uses)
 
 pub read_link-requires-2-clause-may : goal.read_link-requires-2-clause-may
-read_link-requires-2-clause-may g c = may_within _ _ 2 40 0 0 0 0 _ _ (within_one _ (_ ∷ [])) (lit≤ tt) (lit≤ tt) c.requires.may (uses2 g.P.Pages.stays_on _ _ 0 0 _ (g.P.Pages.stays_still _) _ _ c.read_field.ensures.uses c.read_link.ensures.uses)
+read_link-requires-2-clause-may g c =
+    let near = near_node (g.P.Pages.state c.args.p.now) (address_of c.args.node) in
+    may_in near _ _ 2 40 0 0 0 _ _ (within_one _ (_ ∷ [])) (lit≤ tt) (lit≤ tt) c.requires.may (uses2 g.P.Pages.stays_on near _ _ _ (g.P.Pages.stays_still _) _ _ c.read_field.ensures.uses c.read_link.ensures.uses)
 
 pub point_on-requires-clause-may : goal.point_on-requires-clause-may
-point_on-requires-clause-may g c = may_other _ _ 2 40 0 0 14 _ _ (lit≤ tt) (lit≤ tt) c.requires.may (uses3 g.P.Pages.stays_on _ _ 0 0 _ (g.P.Pages.stays_still _) _ _ _ c.read_field.ensures.uses c.read_link.ensures.uses c.read_link-2.ensures.uses)
+point_on-requires-clause-may g c =
+    let near = near_node (g.P.Pages.state c.args.p.now) (address_of c.args.node) in
+    let to_q = node_before (g.P.Pages.state c.args.p.now) (address_of c.args.node) (address_of c.args.base) _ _ c.in_ok-before.before c.read_field.ensures.told c.read_field.ensures.uses.count c.in_ok-before.ensures.value c.in_ok-before.ensures.place in
+    let to_r = node_behind (g.P.Pages.state c.args.p.now) (address_of c.args.node) (address_of c.args.base) _ _ c.in_ok-behind.behind (c.read_link.ensures.told ∙ c.read_field.ensures.told) (c.read_link.ensures.uses.count ∙ c.read_field.ensures.uses.count) c.in_ok-behind.ensures.value c.in_ok-behind.ensures.place in
+    may_near near _ _ 2 40 0 0 14 _ _ to_q (lit≤ tt) (lit≤ tt) c.requires.may (uses3 g.P.Pages.stays_on near _ _ _ (g.P.Pages.stays_still _) _ _ _ c.read_field.ensures.uses c.read_link.ensures.uses c.read_link-2.ensures.uses)
 
 pub point_back-requires-clause-may : goal.point_back-requires-clause-may
-point_back-requires-clause-may g c = may_other _ _ 2 40 1 14 14 _ _ (lit≤ tt) (lit≤ tt) c.requires.may (uses4 g.P.Pages.stays_on _ _ _ 0 _ (g.P.Pages.stays_still _) _ _ _ _ c.read_field.ensures.uses c.read_link.ensures.uses c.read_link-2.ensures.uses c.point_on.ensures.uses)
+point_back-requires-clause-may g c =
+    let near = near_node (g.P.Pages.state c.args.p.now) (address_of c.args.node) in
+    let to_q = node_before (g.P.Pages.state c.args.p.now) (address_of c.args.node) (address_of c.args.base) _ _ c.in_ok-before.before c.read_field.ensures.told c.read_field.ensures.uses.count c.in_ok-before.ensures.value c.in_ok-before.ensures.place in
+    let to_r = node_behind (g.P.Pages.state c.args.p.now) (address_of c.args.node) (address_of c.args.base) _ _ c.in_ok-behind.behind (c.read_link.ensures.told ∙ c.read_field.ensures.told) (c.read_link.ensures.uses.count ∙ c.read_field.ensures.uses.count) c.in_ok-behind.ensures.value c.in_ok-behind.ensures.place in
+    may_near near _ _ 2 40 1 14 14 _ _ to_r (lit≤ tt) (lit≤ tt) c.requires.may (uses4 g.P.Pages.stays_on near _ _ _ _ to_q to_r _ (g.P.Pages.stays_still _) _ _ _ _ c.read_field.ensures.uses c.read_link.ensures.uses c.read_link-2.ensures.uses c.point_on.ensures.uses)
 
 pub write_field-requires-clause-may : goal.write_field-requires-clause-may
-write_field-requires-clause-may g c = may_within _ _ 2 40 2 28 0 12 _ _ (within_two _ _ []) (lit≤ tt) (lit≤ tt) c.requires.may (uses5 g.P.Pages.stays_on _ _ _ _ _ (g.P.Pages.stays_still _) _ _ _ _ _ c.read_field.ensures.uses c.read_link.ensures.uses c.read_link-2.ensures.uses c.point_on.ensures.uses c.point_back.ensures.uses)
+write_field-requires-clause-may g c =
+    let near = near_node (g.P.Pages.state c.args.p.now) (address_of c.args.node) in
+    let to_q = node_before (g.P.Pages.state c.args.p.now) (address_of c.args.node) (address_of c.args.base) _ _ c.in_ok-before.before c.read_field.ensures.told c.read_field.ensures.uses.count c.in_ok-before.ensures.value c.in_ok-before.ensures.place in
+    let to_r = node_behind (g.P.Pages.state c.args.p.now) (address_of c.args.node) (address_of c.args.base) _ _ c.in_ok-behind.behind (c.read_link.ensures.told ∙ c.read_field.ensures.told) (c.read_link.ensures.uses.count ∙ c.read_field.ensures.uses.count) c.in_ok-behind.ensures.value c.in_ok-behind.ensures.place in
+    may_in near _ _ 2 40 2 28 12 _ _ (within_two _ _ []) (lit≤ tt) (lit≤ tt) c.requires.may (uses5 g.P.Pages.stays_on near _ _ _ _ to_q to_r _ (g.P.Pages.stays_still _) _ _ _ _ _ c.read_field.ensures.uses c.read_link.ensures.uses c.read_link-2.ensures.uses c.point_on.ensures.uses c.point_back.ensures.uses)
 
 pub returns-in_err-point_on-clause-uses : goal.returns-in_err-point_on-clause-uses
-returns-in_err-point_on-clause-uses g c = uses_at_most _ 1 14 2 40 _ _ (lit≤ tt) (lit≤ tt) (uses4 g.P.Pages.stays_on _ _ _ 0 _ (g.P.Pages.stays_still _) _ _ _ _ c.read_field.ensures.uses c.read_link.ensures.uses c.read_link-2.ensures.uses c.point_on.ensures.uses)
+returns-in_err-point_on-clause-uses g c =
+    let near = near_node (g.P.Pages.state c.args.p.now) (address_of c.args.node) in
+    let to_q = node_before (g.P.Pages.state c.args.p.now) (address_of c.args.node) (address_of c.args.base) _ _ c.in_ok-before.before c.read_field.ensures.told c.read_field.ensures.uses.count c.in_ok-before.ensures.value c.in_ok-before.ensures.place in
+    let to_r = node_behind (g.P.Pages.state c.args.p.now) (address_of c.args.node) (address_of c.args.base) _ _ c.in_ok-behind.behind (c.read_link.ensures.told ∙ c.read_field.ensures.told) (c.read_link.ensures.uses.count ∙ c.read_field.ensures.uses.count) c.in_ok-behind.ensures.value c.in_ok-behind.ensures.place in
+    reaches_at_most near _ 1 14 2 40 _ _ (lit≤ tt) (lit≤ tt) (uses4 g.P.Pages.stays_on near _ _ _ _ to_q to_r _ (g.P.Pages.stays_still _) _ _ _ _ c.read_field.ensures.uses c.read_link.ensures.uses c.read_link-2.ensures.uses c.point_on.ensures.uses)
 
 pub returns-in_err-point_back-clause-uses : goal.returns-in_err-point_back-clause-uses
-returns-in_err-point_back-clause-uses g c = uses_at_most _ 2 28 2 40 _ _ (lit≤ tt) (lit≤ tt) (uses5 g.P.Pages.stays_on _ _ _ _ _ (g.P.Pages.stays_still _) _ _ _ _ _ c.read_field.ensures.uses c.read_link.ensures.uses c.read_link-2.ensures.uses c.point_on.ensures.uses c.point_back.ensures.uses)
+returns-in_err-point_back-clause-uses g c =
+    let near = near_node (g.P.Pages.state c.args.p.now) (address_of c.args.node) in
+    let to_q = node_before (g.P.Pages.state c.args.p.now) (address_of c.args.node) (address_of c.args.base) _ _ c.in_ok-before.before c.read_field.ensures.told c.read_field.ensures.uses.count c.in_ok-before.ensures.value c.in_ok-before.ensures.place in
+    let to_r = node_behind (g.P.Pages.state c.args.p.now) (address_of c.args.node) (address_of c.args.base) _ _ c.in_ok-behind.behind (c.read_link.ensures.told ∙ c.read_field.ensures.told) (c.read_link.ensures.uses.count ∙ c.read_field.ensures.uses.count) c.in_ok-behind.ensures.value c.in_ok-behind.ensures.place in
+    reaches_at_most near _ 2 28 2 40 _ _ (lit≤ tt) (lit≤ tt) (uses5 g.P.Pages.stays_on near _ _ _ _ to_q to_r _ (g.P.Pages.stays_still _) _ _ _ _ _ c.read_field.ensures.uses c.read_link.ensures.uses c.read_link-2.ensures.uses c.point_on.ensures.uses c.point_back.ensures.uses)
 
 pub returns-in_err-write_field-clause-uses : goal.returns-in_err-write_field-clause-uses
-returns-in_err-write_field-clause-uses g c = (uses6 g.P.Pages.stays_on _ _ _ _ _ (g.P.Pages.stays_still _) _ _ _ _ _ _ c.read_field.ensures.uses c.read_link.ensures.uses c.read_link-2.ensures.uses c.point_on.ensures.uses c.point_back.ensures.uses c.write_field.ensures.uses)
+returns-in_err-write_field-clause-uses g c =
+    let near = near_node (g.P.Pages.state c.args.p.now) (address_of c.args.node) in
+    let to_q = node_before (g.P.Pages.state c.args.p.now) (address_of c.args.node) (address_of c.args.base) _ _ c.in_ok-before.before c.read_field.ensures.told c.read_field.ensures.uses.count c.in_ok-before.ensures.value c.in_ok-before.ensures.place in
+    let to_r = node_behind (g.P.Pages.state c.args.p.now) (address_of c.args.node) (address_of c.args.base) _ _ c.in_ok-behind.behind (c.read_link.ensures.told ∙ c.read_field.ensures.told) (c.read_link.ensures.uses.count ∙ c.read_field.ensures.uses.count) c.in_ok-behind.ensures.value c.in_ok-behind.ensures.place in
+    (uses6 g.P.Pages.stays_on near _ _ _ _ to_q to_r _ (g.P.Pages.stays_still _) _ _ _ _ _ _ c.read_field.ensures.uses c.read_link.ensures.uses c.read_link-2.ensures.uses c.point_on.ensures.uses c.point_back.ensures.uses c.write_field.ensures.uses)
 
 pub returns-clause-uses : goal.returns-clause-uses
-returns-clause-uses g c = (uses6 g.P.Pages.stays_on _ _ _ _ _ (g.P.Pages.stays_still _) _ _ _ _ _ _ c.read_field.ensures.uses c.read_link.ensures.uses c.read_link-2.ensures.uses c.point_on.ensures.uses c.point_back.ensures.uses c.write_field.ensures.uses)
+returns-clause-uses g c =
+    let near = near_node (g.P.Pages.state c.args.p.now) (address_of c.args.node) in
+    let to_q = node_before (g.P.Pages.state c.args.p.now) (address_of c.args.node) (address_of c.args.base) _ _ c.in_ok-before.before c.read_field.ensures.told c.read_field.ensures.uses.count c.in_ok-before.ensures.value c.in_ok-before.ensures.place in
+    let to_r = node_behind (g.P.Pages.state c.args.p.now) (address_of c.args.node) (address_of c.args.base) _ _ c.in_ok-behind.behind (c.read_link.ensures.told ∙ c.read_field.ensures.told) (c.read_link.ensures.uses.count ∙ c.read_field.ensures.uses.count) c.in_ok-behind.ensures.value c.in_ok-behind.ensures.place in
+    (uses6 g.P.Pages.stays_on near _ _ _ _ to_q to_r _ (g.P.Pages.stays_still _) _ _ _ _ _ _ c.read_field.ensures.uses c.read_link.ensures.uses c.read_link-2.ensures.uses c.point_on.ensures.uses c.point_back.ensures.uses c.write_field.ensures.uses)
 
 pub returns-clause-removes : goal.returns-clause-removes
 returns-clause-removes g c = λ pages before behind is list.
@@ -64,4 +98,6 @@ returns-in_err-behind-clause-never g c = λ pages before behind is list.
     handed_on c.read_link-2.result _ _ (plain_read c.read_link-2.result _ _ _ _ pages (first_of behind) is2 c.read_link-2.ensures.never there.0 there.1) c.in_err-behind.was c.from_residual-in_err-behind.ensures
 
 pub returns-in_err-behind-clause-uses : goal.returns-in_err-behind-clause-uses
-returns-in_err-behind-clause-uses g c = uses_at_most _ 0 0 2 40 _ _ (lit≤ tt) (lit≤ tt) (uses3 g.P.Pages.stays_on _ _ 0 0 _ (g.P.Pages.stays_still _) _ _ _ c.read_field.ensures.uses c.read_link.ensures.uses c.read_link-2.ensures.uses)
+returns-in_err-behind-clause-uses g c =
+    let near = near_node (g.P.Pages.state c.args.p.now) (address_of c.args.node) in
+    reaches_at_most near _ 0 0 2 40 _ _ (lit≤ tt) (lit≤ tt) (uses3 g.P.Pages.stays_on near _ _ _ (g.P.Pages.stays_still _) _ _ _ c.read_field.ensures.uses c.read_link.ensures.uses c.read_link-2.ensures.uses)

@@ -1,7 +1,7 @@
 use Rattle.std.proofs.Common.{◌+◌, ◌≤◌, ◌∙◌, ℕ, ◌++◌, refl, List, length, drop, ap, sym, arith}
 use Rattle.byteorder.specs.Endian.{big_number}
-use Rattle.mini_trx.specs.Frames.{header_bytes, write}
-use Rattle.mini_trx.proofs.FrameLemmas.{length-frame, count_fits, count_read, frame_more, whole_slice, header_len}
+use Rattle.page_model.specs.Frames.{header_bytes, write}
+use Rattle.page_model.proofs.GroupFrameLemmas.{length-frame, count_fits, count_read, frame_more, whole_slice, header_len}
 use Rattle.mini_trx.proofs.frame.append.Goals as goal
 
 pub count_of-count-requires : goal.count_of-count-requires

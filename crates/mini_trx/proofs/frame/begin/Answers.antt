@@ -1,4 +1,4 @@
-use Rattle.mini_trx.specs.Frames.{frame_bytes}
+use Rattle.page_model.specs.Frames.{frame_bytes}
 use Rattle.std.proofs.Common.{ap, ◌∙◌, ◌++◌, List, ℕ, [], ◌∷◌}
 use Rattle.mini_trx.proofs.frame.begin.Goals as goal
 

@@ -1,8 +1,8 @@
 use Rattle.std.proofs.Common.{◌+◌, ◌∙◌, ℕ, List, take, drop, ap, sym, subst, arith}
 use Rattle.std.proofs.lemmas.List.{take_rest}
 use Rattle.byteorder.specs.Endian.{big_number}
-use Rattle.mini_trx.specs.Frames.{BeginsWith, write}
-use Rattle.mini_trx.proofs.ParseLemmas.{begins_there}
+use Rattle.page_model.specs.Frames.{BeginsWith, write}
+use Rattle.page_model.proofs.ParseLemmas.{begins_there}
 use Rattle.mini_trx.proofs.frame.behind_write.Goals as goal
 
 pub returns-then-end-bytes-clause-found : goal.returns-then-end-bytes-clause-found

@@ -1,8 +1,8 @@
 use Rattle.std.proofs.Common.{◌+◌, ◌∙◌, ℕ, ap, take, drop, arith}
 use Rattle.std.proofs.lemmas.List.{take_rest}
 use Rattle.byteorder.specs.Endian.{big_number}
-use Rattle.mini_trx.specs.Frames.{write}
-use Rattle.mini_trx.proofs.FrameLemmas.{first_read}
+use Rattle.page_model.specs.Frames.{write}
+use Rattle.page_model.proofs.GroupFrameLemmas.{first_read}
 use Rattle.mini_trx.proofs.frame.first_write.Goals as goal
 
 pub returns : goal.returns

@@ -1,6 +1,6 @@
 use Rattle.std.proofs.Common.{◌≡◌, ◌+◌, ◌-◌, ℕ, sym, subst, arith}
-use Rattle.mini_trx.specs.Frames.{HasWrites}
-use Rattle.mini_trx.proofs.ParseLemmas.{writes_on, writes_begin, writes_back}
+use Rattle.page_model.specs.Frames.{HasWrites}
+use Rattle.page_model.proofs.ParseLemmas.{writes_on, writes_begin, writes_back}
 use Rattle.mini_trx.proofs.frame.has_writes.Goals as goal
 
 pub returns-in_default : goal.returns-in_default

@@ -1,5 +1,5 @@
 use Rattle.std.proofs.Common.{◌-◌}
-use Rattle.mini_trx.specs.Frames.{HasWrites}
+use Rattle.page_model.specs.Frames.{HasWrites}
 use Rattle.mini_trx.proofs.frame.has_writes.Given as goal
 
 -- what is left completes the whole, and nothing else does

@@ -1,7 +1,7 @@
 use Rattle.std.proofs.Common.{ℕ, List, drop, sym, subst, refl, arith}
 use Rattle.std.proofs.lemmas.List.{take_rest}
-use Rattle.mini_trx.specs.Frames.{HasWrites}
-use Rattle.mini_trx.proofs.ParseLemmas.{frame_parts, frame_of_parts}
+use Rattle.page_model.specs.Frames.{HasWrites}
+use Rattle.page_model.proofs.ParseLemmas.{frame_parts, frame_of_parts}
 use Rattle.mini_trx.proofs.frame.is_frame.Goals as goal
 
 pub returns-then-has_header : goal.returns-then-has_header

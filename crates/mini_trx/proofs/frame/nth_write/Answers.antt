@@ -1,9 +1,9 @@
 use Rattle.std.proofs.Common.{◌≡◌, ◌+◌, ◌∙◌, ℕ, ap, arith, rules}
 use Rattle.std.proofs.lemmas.List.{take_rest}
-use Rattle.mini_trx.specs.Frames.{writes_in, write, writes_bytes}
+use Rattle.page_model.specs.Frames.{writes_in, write, writes_bytes}
 use Rattle.mini_trx.specs.PageWrites.{write_of}
 use Rattle.std.proofs.Common.{[], get_or, drop}
-use Rattle.mini_trx.proofs.ParseLemmas.{nth_begins, body_of, frame_long}
+use Rattle.page_model.proofs.ParseLemmas.{nth_begins, body_of, frame_long}
 use Rattle.mini_trx.proofs.frame.nth_write.Goals as goal
 
 pub slice_bounds-rest-count : goal.slice_bounds-rest-count

@@ -1,5 +1,5 @@
 use Rattle.std.proofs.Common.{◌≡◌, drop}
-use Rattle.mini_trx.specs.Frames.{writes_bytes, writes_in}
+use Rattle.page_model.specs.Frames.{writes_bytes, writes_in}
 use Rattle.mini_trx.proofs.frame.nth_write.Given as goal
 
 abbrev pub invariant-loop-n : goal.invariant-loop-n

@@ -1,7 +1,7 @@
 use Rattle.std.proofs.Common.{◌∙◌, ℕ, List, ap, subst, sym, length, drop, ◌≤◌}
 use Rattle.byteorder.specs.Endian.{big_number}
 use Rattle.mini_trx.specs.Groups.{GroupView}
-use Rattle.mini_trx.proofs.ParseLemmas.{frame_long}
+use Rattle.page_model.proofs.ParseLemmas.{frame_long}
 use Rattle.mini_trx.proofs.GroupLemmas.{count_kept}
 use Rattle.mini_trx.proofs.group.Group.count.Goals as goal
 

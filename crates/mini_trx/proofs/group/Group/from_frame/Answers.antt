@@ -1,5 +1,5 @@
 use Rattle.std.proofs.Common.{ℕ, List, refl, subst, arith}
-use Rattle.mini_trx.specs.Frames.{HoldsFrame}
+use Rattle.page_model.specs.Frames.{HoldsFrame}
 use Rattle.mini_trx.proofs.GroupLemmas.{keeps_read, same_writes}
 use Rattle.mini_trx.proofs.group.Group.from_frame.Goals as goal
 

@@ -2,7 +2,7 @@ use Rattle.std.proofs.Common.{◌≡◌, ◌∙◌, ◌+◌, List, ℕ, ◌∷�
 use Rattle.page_model.specs.Pages.{Write}
 use Rattle.page_model.specs.Steps.{IsWithin}
 use Rattle.mini_trx.specs.Copies.{page_of}
-use Rattle.mini_trx.specs.Frames.{write, frame_bytes}
+use Rattle.page_model.specs.Frames.{write, frame_bytes}
 use Rattle.mini_trx.proofs.CoherenceLemmas.{coherent_after}
 use Rattle.mini_trx.proofs.MtrLemmas.{told_written, touches_pinned, pages_patched, length-frame_push}
 use Rattle.mini_trx.proofs.mtr.MtrPages.write.Goals as goal

@@ -1,6 +1,6 @@
 use Rattle.std.proofs.Common.{rules}
 use Rattle.std.proofs.lemmas.List.{take_rest}
-use Rattle.mini_trx.proofs.ParseLemmas.{frame_long}
+use Rattle.page_model.proofs.ParseLemmas.{frame_long}
 use Rattle.mini_trx.proofs.WritesLemmas.{frame_body}
 use Rattle.mini_trx.proofs.writes.Writes.of_frame.Goals as goal
 

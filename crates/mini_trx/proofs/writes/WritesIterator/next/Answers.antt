@@ -1,6 +1,6 @@
 use Rattle.std.proofs.Common.{◌∙◌, ◌-◌, ◌∷◌, length, sym, ap, arith}
 use Rattle.page_model.specs.Pages.{Write}
-use Rattle.mini_trx.specs.Frames.{writes_from, write_at_head}
+use Rattle.page_model.specs.Frames.{writes_from, write_at_head}
 use Rattle.mini_trx.proofs.WritesLemmas.{next_write, next_after, behind}
 use Rattle.mini_trx.proofs.writes.WritesIterator.next.Goals as goal
 
