@@ -1,0 +1,5 @@
+pub mod DeviceLemmas
+pub mod TearLemmas
+pub mod OpenLemmas
+pub mod CreateLemmas
+pub mod NewLemmas

@@ -1,0 +1,11 @@
+pub mod FlushLemmas
+pub mod PendingLemmas
+pub mod StageLemmas
+pub mod SwitchLemmas
+pub mod RecoverLemmas
+pub mod ScanLemmas
+pub mod GateLemmas
+pub mod ReadingLemmas
+pub mod FindLemmas
+pub mod HeadLemmas
+pub mod PlaceLemmas

@@ -1,0 +1,4 @@
+pub mod Logs
+pub mod Stages
+pub mod Switches
+pub mod Scans
