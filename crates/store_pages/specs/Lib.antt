@@ -1,0 +1,4 @@
+pub mod Changes
+pub mod Pushes
+pub mod Oldest
+pub mod Lobs

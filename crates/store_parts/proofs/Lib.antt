@@ -1,0 +1,4 @@
+pub mod CountLemmas
+pub mod FrameLemmas
+pub mod MoveLemmas
+pub mod KeepLemmas
