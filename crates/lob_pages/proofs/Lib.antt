@@ -1,0 +1,4 @@
+pub mod ByteLemmas
+pub mod EntryLemmas
+pub mod FirstLemmas
+pub mod TestLemmas
