@@ -1,7 +1,7 @@
 -- Whether what stands in bytes is a tree, value by value.
 use Rattle.std.proofs.Common.{◌≡◌, ◌≢◌, ℕ, zero, suc, ◌+◌, ◌≤◌, ◌<◌, Bool, true, false, ◌&&◌, List, [], ◌∷◌, length, map, drop, get_or, bytes_eq, refl, sym, ap, subst, ◌∙◌, arith}
 use Rattle.std.proofs.lemmas.List.{drop_all}
-use Rattle.tree_model.specs.Tree.{Tree, Trees, no_trees, tree, trees, tree_list, Members, no_members, member, members, member_list}
+use Rattle.tree_model.specs.Tree.{Tree, Trees, no_trees, tree, trees, tree_list, Members, no_members, member, members, member_list, depth, members_depth}
 use Rattle.tree_model.specs.Same.{same_tree, same_trees, same_members}
 use Rattle.binary_model.specs.Layout.{Container, end, key_end, key_of, child, floor_after}
 use Rattle.binary_model.specs.Stands.{IsValue, AreKeys, AreElements, HoldValues}
@@ -17,12 +17,14 @@ never : (b c : Bool) → false ≡ c → false ≡ b && c
 never true c e = e
 never false c e = refl
 
+-- lists of different lengths aren't the same
 pub uneven_elements : (ts : Trees) (js : List Json) → length (tree_list ts) ≢ length js → false ≡ same_trees ts (trees (map tree_of js))
 uneven_elements no_trees [] n = absurd (n refl)
 uneven_elements no_trees (j ∷ js) n = refl
 uneven_elements (tree t ts) [] n = refl
 uneven_elements (tree t ts) (j ∷ js) n = never (same_tree t (tree_of j)) _ (uneven_elements ts js (λ e. n (ap suc e)))
 
+-- and neither are such objects
 pub uneven_members : (ms : Members) (js : List Member) → length (member_list ms) ≢ length js → false ≡ same_members ms (members (map pair_of js))
 uneven_members no_members [] n = absurd (n refl)
 uneven_members no_members (j ∷ js) n = refl
@@ -48,6 +50,7 @@ module _ (bytes : List ℕ) (c : Container) (k floor : ℕ) (ts : Trees) (js : L
       (λ i. this i && same_trees (behind_first (one i) ts) (trees (map tree_of (drop (k + 1) js))))
       ∙ sym (λ i. same_trees (rest i) (trees (map tree_of (parts i)))) ∙ so_far
 
+  -- behind the last element all are the same
   pub elements_done : length (tree_list ts) ≤ k → length js ≤ k → elements_left k ≡ same_trees ts (trees (map tree_of js)) → true ≡ same_trees ts (trees (map tree_of js))
   elements_done h g so_far =
       let none = none_behind k ts h in
@@ -56,25 +59,29 @@ module _ (bytes : List ℕ) (c : Container) (k floor : ℕ) (ts : Trees) (js : L
 
 -- ---- the rest of members
 
+-- the members from the k-th on
 abbrev pub members_behind : ℕ → Members → Members
 members_behind zero ms = ms
 members_behind (suc k) no_members = no_members
 members_behind (suc k) (member key t ms) = members_behind k ms
 
-none_members : (k : ℕ) (ms : Members) → length (member_list ms) ≤ k → members_behind k ms ≡ no_members
+-- there are none from the end on
+pub none_members : (k : ℕ) (ms : Members) → length (member_list ms) ≤ k → members_behind k ms ≡ no_members
 none_members zero no_members h = refl
 none_members zero (member key t ms) h = absurd (omega (arith, h))
 none_members (suc k) no_members h = refl
 none_members (suc k) (member key t ms) h = none_members k ms (omega (arith, h))
 
 -- the k-th of the members that stand from the j-th on
-record IsNthMember (bytes : List ℕ) (c : Container) (j k : ℕ) (ms : Members) : Type 0 where
-  first : Tree
-  rest : members_behind k ms ≡ member (key_of bytes c (j + k)) first (members_behind (suc k) ms)
-  inside : key_end bytes c (j + k) ≤ end bytes c
-  stands : IsValue bytes first (child bytes c (j + k))
+pub record IsNthMember (bytes : List ℕ) (c : Container) (j k : ℕ) (ms : Members) : Type 0 where
+  pub first : Tree
+  pub rest : members_behind k ms ≡ member (key_of bytes c (j + k)) first (members_behind (suc k) ms)
+  pub inside : key_end bytes c (j + k) ≤ end bytes c
+  pub stands : IsValue bytes first (child bytes c (j + k))
+  pub shallow : depth first ≤ members_depth ms
 
-nth_member : (bytes : List ℕ) (c : Container) (j start floor k : ℕ) (ms : Members) → AreKeys bytes c j start (map (λ m. m.0) (member_list ms)) → HoldValues bytes c j floor ms → k < length (member_list ms) → IsNthMember bytes c j k ms
+-- the k-th member in place, and those behind it
+pub nth_member : (bytes : List ℕ) (c : Container) (j start floor k : ℕ) (ms : Members) → AreKeys bytes c j start (map (λ m. m.0) (member_list ms)) → HoldValues bytes c j floor ms → k < length (member_list ms) → IsNthMember bytes c j k ms
 nth_member bytes c j start floor k no_members a h lt = absurd (omega (arith, lt))
 nth_member bytes c j start floor zero (member key t ms) a h lt =
     let e : j ≡ j + 0 = omega arith in
@@ -83,16 +90,19 @@ nth_member bytes c j start floor zero (member key t ms) a h lt =
       rest = subst (λ i. member key t ms ≡ member (key_of bytes c i) t ms) e (ap (λ l. member l t ms) (sym a.2));
       inside = subst (λ i. key_end bytes c i ≤ end bytes c) e a.1;
       stands = subst (λ i. IsValue bytes t (child bytes c i)) e h.1;
+      shallow = omega arith;
     }
 nth_member bytes c j start floor (suc k) (member key t ms) a h lt =
     let n = nth_member bytes c (suc j) (key_end bytes c j) (floor_after bytes c j floor) k ms a.3 h.2 (omega (arith, lt)) in
     let e : suc j + k ≡ j + suc k = omega arith in
     let t = n.first in
+    let low = n.shallow in
     record {
       first = t;
       rest = subst (λ i. members_behind k ms ≡ member (key_of bytes c i) t (members_behind (suc k) ms)) e n.rest;
       inside = subst (λ i. key_end bytes c i ≤ end bytes c) e n.inside;
       stands = subst (λ i. IsValue bytes t (child bytes c i)) e n.stands;
+      shallow = omega (arith, low);
     }
 
 -- ---- members
@@ -121,6 +131,7 @@ module _ (bytes : List ℕ) (c : Container) (k start floor : ℕ) (ms : Members)
       ∙ both_and (bytes_eq (key_of bytes c k) j.key) (same_tree n.first (tree_of j.value)) _
       ∙ sym (λ i. same_members (rest i) (members (map pair_of (parts i)))) ∙ so_far
 
+  -- behind the last member all are the same
   pub members_done : length (member_list ms) ≤ k → length js ≤ k → members_left k ≡ same_members ms (members (map pair_of js)) → true ≡ same_members ms (members (map pair_of js))
   members_done h g so_far =
       let none = none_members k ms h in

@@ -7,10 +7,10 @@ pub mod MemberLemmas
 pub mod DocumentLemmas
 pub mod NumberLemmas
 pub mod SizeLemmas
-pub mod GrowthLemmas
 pub mod WriteLemmas
 pub mod EncodeLemmas
 pub mod UsageLemmas
 pub mod SearchLemmas
 pub mod EqualLemmas
 pub mod NestingLemmas
+pub mod TextLemmas

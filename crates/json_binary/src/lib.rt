@@ -1,34 +1,25 @@
 //! JSON trees as MySQL's binary JSON: one canonical encoding, and a decoder that names the first fault.
 #![tactic(auto)]
 
+mod codec;
 mod cursor;
-mod decoder;
-mod encoder;
-mod entries;
-mod equal;
 mod error;
-mod layout;
-mod nesting;
-mod numbers;
-mod place;
-mod scalars;
-mod sizes;
-mod usage;
-mod writer;
+mod limits;
 
-pub use cursor::{child, container_in, member, root};
-pub use decoder::{decode, decode_value};
-pub use encoder::encode;
-pub use equal::equals;
+pub use codec::decoder::{decode, decode_value};
+pub use codec::encoder::encode;
+pub use codec::numbers::push_word;
+pub use codec::parts::{Spelled, entry_bytes, value_bytes};
+pub use cursor::containers::{child, container_in, member, root};
+pub use cursor::equal::equals;
+pub use cursor::layout::{Form, Kind, Width};
+pub use cursor::nesting::nests;
+pub use cursor::place::{Container, Spot};
+pub use cursor::scalars::text_range;
+pub use cursor::text::print;
+pub use cursor::usage::used;
 pub use error::{DecodeError, EncodeError};
-pub use layout::{Form, Kind, Width};
-pub use nesting::nests;
-pub use numbers::push_word;
-pub use place::{Container, Spot};
-pub use scalars::text_range;
-pub use sizes::{Extent, Measured, measure};
-pub use usage::used;
-pub use writer::push_entry;
+pub use limits::{MAX_DOCUMENT_BYTES, MAX_SMALL_BYTES, limits_are_defined};
 
 #[cfg(test)]
 mod tests;

@@ -22,6 +22,7 @@ unwrap d (Some z) = z
 some_is : {X : Type 0} (x y : X) → Some x ≡ Some y → x ≡ y
 some_is x y e = ap (unwrap x) e
 
+-- nothing isn't something
 pub no_some : is_some {T = Tree} None ≡ true → ⊥
 no_some e = true≢false (sym e)
 
@@ -37,11 +38,13 @@ place_cell count m n e = go (nat_lt m count) refl e
     go true t h = (some_is m n h, grind (arith, nat_tests, t))
     go false t h = absurd (none_some n h)
 
+-- a leg that has a place in a list finds the element there
 pub child_in : (ts : List Tree) (l : Leg) (n : ℕ) → place_in (length ts) l ≡ Some n → child (array (trees ts)) l ≡ slice_get ts n
 child_in ts (key k) n e = absurd (none_some n e)
 child_in ts (cell m) n e = rw (tree_list-trees ts) (ap (slice_get ts) (place_cell (length ts) m n e).0)
 child_in ts (last m) n e = rw (tree_list-trees ts, e) refl
 
+-- and one that has none finds nothing
 pub child_out : (ts : List Tree) (l : Leg) → place_in (length ts) l ≡ None → child (array (trees ts)) l ≡ None
 child_out ts (key k) e = refl
 child_out ts (cell m) e = rw (tree_list-trees ts) (go (nat_lt m (length ts)) refl e)
@@ -51,6 +54,7 @@ child_out ts (cell m) e = rw (tree_list-trees ts) (go (nat_lt m (length ts)) ref
     go false t h = slice_get_past ts m (grind (arith, nat_tests, t))
 child_out ts (last m) e = rw (tree_list-trees ts, e) refl
 
+-- another child is another element at that place
 pub with_in : (ts : List Tree) (l : Leg) (n : ℕ) (u : Tree) → place_in (length ts) l ≡ Some n → with_child (array (trees ts)) l u ≡ array (trees (set ts n u))
 with_in ts (key k) n u e = absurd (none_some n e)
 with_in ts (cell m) n u e = rw (tree_list-trees ts) (ap (λ i. array (trees (set ts i u))) (place_cell (length ts) m n e).0)
@@ -69,9 +73,11 @@ set_same (t ∷ ts) (suc n) u e = ap (λ us. t ∷ us) (set_same ts n u e)
 still_in : (ts : List Tree) (l : Leg) (n : ℕ) (v : Tree) → place_in (length ts) l ≡ Some n → place_in (length (set ts n v)) l ≡ Some n
 still_in ts l n v e = ap (λ c. place_in c l) (length-set ts n v) ∙ e
 
+-- an element taken for an edit and put back leaves the list
 pub restore_in : (ts : List Tree) (l : Leg) (n : ℕ) (u : Tree) → place_in (length ts) l ≡ Some n → slice_get ts n ≡ Some u → with_child (array (trees (set ts n null))) l u ≡ array (trees ts)
 restore_in ts l n u e is = with_in (set ts n null) l n u (still_in ts l n null e) ∙ ap (λ us. array (trees us)) (set_set ts n u null ∙ set_same ts n u is)
 
+-- an element taken out at its place is the leg taken out
 pub out_in : (ts : List Tree) (l : Leg) (n : ℕ) (u : Tree) → place_in (length ts) l ≡ Some n → slice_get ts n ≡ Some u → taken_out (array (trees ts)) l ≡ Some (array (trees (remove ts n)))
 out_in ts (key k) n u e is = absurd (none_some n e)
 out_in ts (cell m) n u e is =
@@ -79,6 +85,7 @@ out_in ts (cell m) n u e is =
     rw (tree_list-trees ts, same, is) refl
 out_in ts (last m) n u e is = rw (tree_list-trees ts, e, tree_list-trees ts) refl
 
+-- without a place nothing is taken out
 pub out_out : (ts : List Tree) (l : Leg) → place_in (length ts) l ≡ None → taken_out (array (trees ts)) l ≡ None
 out_out ts (key k) e = refl
 out_out ts (cell m) e = rw (child_out ts (cell m) e) refl
@@ -126,6 +133,7 @@ put_same k u (m ∷ ms) up e = go (key_cmp k m.0) refl (put_same k u ms up.1)
 pub put_back : (k : List ℕ) (u : Tree) (ms : List Pair) → AreMembers ms → get k (members ms) ≡ Some u → put k u (put k null (members ms)) ≡ members ms
 put_back k u ms are e = put_put k u null (members ms) ∙ put_same k u ms (rising_from_members ms are) e
 
+-- the same of a member: taken and put back it leaves the object
 pub member_restores : (r : Option Json) (k : List ℕ) (ms new : List Pair) → AreMembers ms → option_map tree_of r ≡ get k (members ms) → (IsSome r → members new ≡ put k null (members ms))
     → IfSome r (λ t. object (put k (tree_of t) (members new)) ≡ object (members ms))
 member_restores None k ms new are before after = tt
@@ -200,6 +208,7 @@ acts_below (Some v) t u edited new l acted some acts is back = (acts.0, is ∙ a
 
 -- ---- one leg further up
 
+-- a list that begins with a value is it and the rest
 pub parts : {X : Type 0} (xs : List X) (x : X) → 1 ≤ length xs → x ≡ get_or xs 0 x → xs ≡ x ∷ take (length xs - 1) (drop 1 xs)
 parts [] x some e = absurd (omega (arith, some))
 parts (y ∷ xs) x some e = ap (λ z. z ∷ xs) (sym e) ∙ ap (λ ys. x ∷ ys) (sym (take_all (length (y ∷ xs) - 1) xs (omega arith)))
@@ -212,6 +221,7 @@ put_again : (l : Leg) (t u taken edited new : Tree) → child t l ≡ Some u →
 put_again l t u taken edited new found is puts =
     puts (subst (λ x. IsSome (child x l)) (sym is) (still t l (subst IsSome (sym found) refl))) ∙ ap (λ x. with_child x l edited) is
 
+-- an edit below a child, put back, is the edit along one leg more
 pub below_ok : (act : Tree → Leg → Option Tree) (l m : Leg) (ls : Path) (t u taken edited new : Tree) (r : Result Bool AllocError)
     → Some u ≡ child t l → taken ≡ with_child t l null → with_child taken l u ≡ t → (IsSome (child taken l) → new ≡ with_child taken l edited)
     → IfOk r (λ acted. Acts (at_parent act m ls u) u edited acted) → IfOk r (λ acted. Acts (at_parent act l (m ∷ ls) t) t new acted)
@@ -221,6 +231,7 @@ below_ok act l m ls t u taken edited new (Ok acted) found is restores puts acts 
     (acts_below (at_parent act m ls u) t u edited new l acted (subst IsSome found refl) acts (put_again l t u taken edited new (sym found) is puts)
     (ap (λ x. with_child x l u) (sym is) ∙ restores))
 
+-- where memory ran out below, the child put back leaves the tree
 pub below_err : (l : Leg) (t u taken edited new : Tree) (r : Result Bool AllocError) → Some u ≡ child t l → taken ≡ with_child t l null → with_child taken l u ≡ t
     → (IsSome (child taken l) → new ≡ with_child taken l edited) → OnErr r (edited ≡ u) → OnErr r (new ≡ t)
 below_err l t u taken edited new (Ok acted) found is restores puts kept = tt
@@ -229,6 +240,7 @@ below_err l t u taken edited new (Err e) found is restores puts kept =
 
 -- ---- an element more, a member less
 
+-- an element behind the last is the cell added
 pub pushed : (ts new : List Tree) (u : Tree) (n : ℕ) → new ≡ ts ++ u ∷ [] → Acts (added u (array (trees ts)) (cell n)) (array (trees ts)) (array (trees new)) true
 pushed ts new u n is = (refl, ap (λ us. array (trees us)) (is ∙ ap (λ us. us ++ u ∷ []) (sym (tree_list-trees ts))))
 
@@ -240,12 +252,15 @@ without_absent k (member l u ms) e = go (bytes_eq k l) refl (without_absent k ms
     go true h rest = absurd (none_some u (sym (rw h at e)))
     go false h rest = rw h (ap (member l u) (rest (rw h at e)))
 
+-- a member removed is the key taken out
 pub member_removed : (r : Option Json) (k : List ℕ) (ms new : Members) → option_map tree_of r ≡ get k ms → new ≡ without k ms → Acts (taken_out (object ms) (key k)) (object ms) (object new) (is_some r)
 member_removed None k ms new before after = rw (← before) (refl, ap object (after ∙ without_absent k ms (sym before)))
 member_removed (Some t) k ms new before after = rw (← before) (refl, ap object after)
 
+-- an action that has its tree acted
 pub acts_in : (o : Option Tree) (t new : Tree) (ts : Tree) → o ≡ Some ts → new ≡ ts → Acts o t new true
 acts_in o t new ts e is = rw e (refl, is)
 
+-- one that has none didn't
 pub acts_out : (o : Option Tree) (t : Tree) → o ≡ None → Acts o t t false
 acts_out o t e = rw e (refl, refl)

@@ -1,5 +1,5 @@
 // Values worked by hand from MySQL's rules for JSON_SET, JSON_REPLACE and JSON_REMOVE.
-use crate::{find, remove, replace, set};
+use crate::{Edit, Pair, Pairs, edit_all, find, remove, replace, set};
 use json_path::Path;
 use json_tree::{Json, from_text, to_text};
 use std::alloc::{AllocError, Global};
@@ -110,5 +110,34 @@ fn replace_and_remove_act_on_what_is_found(rt: HostRuntime) -> Result<(), Fail> 
         let text = text_of(alloc, &changed)?;
         assert_eq!(rt; text.as_slice(), removed.as_bytes(), "{tree} at {path}");
     }
+    Ok(())
+}
+
+// A pair of a statement.
+fn pair(alloc: Global, path: &str, value: &str) -> Result<Pair, Fail> {
+    Ok(Pair {
+        path: Path::parse(alloc, path)?,
+        value: from_text(alloc, value)?,
+    })
+}
+
+#[test]
+fn the_edits_of_a_statement_are_made_from_the_left(rt: HostRuntime) -> Result<(), Fail> {
+    let alloc = rt.alloc();
+    let tree = from_text(alloc, "{\"a\":1}")?;
+    for adding in [true, false] {
+        let mut pairs = Vec::new(alloc);
+        pairs.push(pair(alloc, "$.b", "[1]")?)?;
+        pairs.push(pair(alloc, "$.a", "2")?)?;
+        let (edit, wanted) = if adding {
+            (Edit::Set(Pairs::new(pairs)), "{\"a\": 2, \"b\": [1]}")
+        } else {
+            (Edit::Replace(Pairs::new(pairs)), "{\"a\": 2}")
+        };
+        let text = text_of(alloc, &edit_all(alloc, &tree, &edit)?)?;
+        assert_eq!(rt; text.as_slice(), wanted.as_bytes());
+    }
+    // The tree stays.
+    assert_eq!(rt; text_of(alloc, &tree)?.as_slice(), b"{\"a\": 1}".as_slice());
     Ok(())
 }

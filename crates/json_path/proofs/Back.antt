@@ -184,5 +184,6 @@ short_legs (key k ∷ ls) are = let short : is_long (key k) ≡ false = grind (a
 short_legs (cell n ∷ ls) are = short_legs ls are.1
 short_legs (last n ∷ ls) are = short_legs ls are.1
 
+-- the text of a path is read as that path
 pub reads_back : (p : Path) → IsPath p → read_path (path_text p) ≡ Ok p
 reads_back p is = rw (legs_back p [] 1 is.1 (omega (arith, is.0)), short_legs p is.1) refl

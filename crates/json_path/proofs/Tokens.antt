@@ -19,10 +19,12 @@ pub quote_first : (xs : List ℕ) → first_text_of (tokens (34 ∷ xs)) ≡ con
 unfolding lex punctuate
 quote_first xs = placed (content plain xs) (begins_colon (lex in_string xs)) (λ next. punctuate next (lex in_string xs))
 
+-- a key in quotes is the text of the first token
 pub first_text : (bs : List ℕ) (t : Token) (ts : List Token) → tokens bs ≡ t ∷ ts → get_or bs 0 0 ≡ 34 → string_text t ≡ content plain (drop 1 bs)
 first_text [] t ts e h = absurd (omega (arith, h))
 first_text (c ∷ bs) t ts e h = sym (ap first_text_of e) ∙ ap (λ x. first_text_of (tokens (x ∷ bs))) h ∙ quote_first bs
 
+-- a quote begins a token, or no text is there
 pub some_token : (bs : List ℕ) → tokens bs ≡ [] → get_or bs 0 0 ≡ 34 → None ≡ content plain (drop 1 bs)
 some_token [] e h = absurd (omega (arith, h))
 some_token (c ∷ bs) e h = sym (ap first_text_of e) ∙ ap (λ x. first_text_of (tokens (x ∷ bs))) h ∙ quote_first bs

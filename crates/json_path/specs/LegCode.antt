@@ -4,15 +4,15 @@ use Rattle.std.specs.Coded.{Coded, code_by, coded⊎, coded_list, coded_ℕ}
 use Rattle.std.proofs.Common.{inl, inr}
 use Rattle.tree_model.specs.Path.{Leg, key, cell, last}
 
-abbrev pub Parts : Type 0
-Parts = List ℕ ⊎ (ℕ ⊎ ℕ)
+abbrev pub LegParts : Type 0
+LegParts = List ℕ ⊎ (ℕ ⊎ ℕ)
 
-abbrev pub to : Leg → Parts
+abbrev pub to : Leg → LegParts
 to (key k) = inl k
 to (cell n) = inr (inl n)
 to (last n) = inr (inr n)
 
-abbrev pub from : Parts → Leg
+abbrev pub from : LegParts → Leg
 from (inl k) = key k
 from (inr (inl n)) = cell n
 from (inr (inr n)) = last n
@@ -23,4 +23,4 @@ back (cell n) = refl
 back (last n) = refl
 
 abbrev pub path_code : Coded (List Leg)
-path_code = coded_list (code_by Parts (coded⊎ (coded_list coded_ℕ) (coded⊎ coded_ℕ coded_ℕ)) to from back)
+path_code = coded_list (code_by LegParts (coded⊎ (coded_list coded_ℕ) (coded⊎ coded_ℕ coded_ℕ)) to from back)

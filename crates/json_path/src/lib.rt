@@ -5,6 +5,7 @@
 mod error;
 mod index;
 mod key;
+mod limits;
 mod parse;
 mod path;
 mod print;
@@ -13,4 +14,5 @@ mod strings;
 mod tests;
 
 pub use error::PathError;
+pub use limits::{MAX_LEGS, limit_is_defined};
 pub use path::{Leg, Path};

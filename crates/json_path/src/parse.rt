@@ -7,12 +7,9 @@ ghost use Rattle.json_path.specs.Parsing.{IsParsed, ReadsLeg, ReadsLegs};
 
 use crate::index::index;
 use crate::key::member;
-use crate::{Leg, Path, PathError};
+use crate::{Leg, MAX_LEGS, Path, PathError};
+use json_tree::MAX_KEY_BYTES;
 use std::alloc::Global;
-
-const MAX_LEGS: usize = 100;
-
-const MAX_KEY: usize = 65_535;
 
 /// A leg, and the place behind it.
 #[derive(Drop)]
@@ -80,7 +77,7 @@ fn is_long(leg: &Leg) -> bool
     ensures { result ≡ spec.is_long (leg_of leg.now) }
 {
     match leg {
-        Leg::Member(key) => key.len() > MAX_KEY,
+        Leg::Member(key) => key.len() > MAX_KEY_BYTES,
         _ => false,
     }
 }

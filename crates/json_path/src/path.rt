@@ -16,7 +16,7 @@ pub enum Leg {
     Last(u32),
 }
 
-/// A path into a tree: at most 100 legs, with keys below 65,536 bytes.
+/// A path into a tree: at most `MAX_LEGS` legs, with keys of at most `MAX_KEY_BYTES` bytes.
 #[derive(Drop)]
 pub struct Path {
     pub(crate) legs: Vec<Leg>,

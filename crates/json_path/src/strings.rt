@@ -2,8 +2,8 @@
 ghost use Rattle.std.specs.Prelude.{◌≡◌, ◌+◌, ◌<◌, ◌≤◌, length, drop, slice_index, Some, IfOk, option_map};
 ghost use Rattle.json.specs.Text.{content, plain};
 ghost use Rattle.path_model.specs.PathText as spec;
-ghost use Rattle.path_model.specs.PathText.{next_spot, string_stop, whole, backslash};
-ghost use Rattle.json_path.specs.Parsing.{Unquotes, spot_of};
+ghost use Rattle.path_model.specs.PathText.{next_state, string_stop, whole, backslash};
+ghost use Rattle.json_path.specs.Parsing.{Unquotes, state_of};
 ghost use Rattle.json.specs.Reads.{token_of};
 ghost use Rattle.json_path.specs.Tokens.{string_text};
 
@@ -64,7 +64,7 @@ pub fn end_of_string(bytes: &[u8], at: usize) -> Result<usize, PathError>
 // before the last digits of a unit, before those of the first half of a surrogate pair, behind
 // that half, and behind the backslash, the `\u` and the `\ud` of the second.
 #[derive(Clone, Copy)]
-enum Spot {
+enum StringState {
     Whole,
     Backslash,
     Unit,
@@ -77,48 +77,53 @@ enum Spot {
     SecondD,
 }
 
-fn if_digit(byte: u8, spot: Spot) -> Option<Spot>
-    ensures { option_map spot_of result ≡ spec.if_digit byte (spot_of spot) }
+fn if_digit(byte: u8, state: StringState) -> Option<StringState>
+    ensures { option_map state_of result ≡ spec.if_digit byte (state_of state) }
 {
     if byte.is_ascii_hexdigit() {
-        Some(spot)
+        Some(state)
     } else {
         None
     }
 }
 
 #[tactic(auto, unfolding(json::specs::Text::short_escape))]
-fn behind_backslash(byte: u8) -> Option<Spot>
-    ensures { option_map spot_of result ≡ next_spot backslash byte }
+fn behind_backslash(byte: u8) -> Option<StringState>
+    ensures { option_map state_of result ≡ next_state backslash byte }
 {
     match byte {
-        b'u' => Some(Spot::Unit),
-        b'"' | b'\\' | b'/' | b'b' | b'f' | b'n' | b'r' | b't' => Some(Spot::Whole),
+        b'u' => Some(StringState::Unit),
+        b'"' | b'\\' | b'/' | b'b' | b'f' | b'n' | b'r' | b't' => Some(StringState::Whole),
         _ => None,
     }
 }
 
-fn next(spot: Spot, byte: u8) -> Option<Spot>
-    ensures { option_map spot_of result ≡ next_spot (spot_of spot) byte }
+fn next(state: StringState, byte: u8) -> Option<StringState>
+    ensures { option_map state_of result ≡ next_state (state_of state) byte }
 {
-    match (spot, byte) {
-        (Spot::Whole, 0..=31) => None,
-        (Spot::Whole, b'\\') => Some(Spot::Backslash),
-        (Spot::Whole, _) => Some(Spot::Whole),
-        (Spot::Backslash, _) => behind_backslash(byte),
-        (Spot::Unit, b'd' | b'D') => Some(Spot::UnitD),
-        (Spot::Unit, _) => if_digit(byte, Spot::More(3)),
-        (Spot::UnitD, b'8'..=b'9' | b'A'..=b'B' | b'a'..=b'b') => Some(Spot::FirstHalf(2)),
-        (Spot::UnitD, b'C'..=b'F' | b'c'..=b'f') => None,
-        (Spot::UnitD, _) => if_digit(byte, Spot::More(2)),
-        (Spot::More(left), _) if left > 1 => if_digit(byte, Spot::More(left - 1)),
-        (Spot::More(_), _) => if_digit(byte, Spot::Whole),
-        (Spot::FirstHalf(left), _) if left > 1 => if_digit(byte, Spot::FirstHalf(left - 1)),
-        (Spot::FirstHalf(_), _) => if_digit(byte, Spot::Half),
-        (Spot::Half, b'\\') => Some(Spot::HalfBackslash),
-        (Spot::HalfBackslash, b'u') => Some(Spot::Second),
-        (Spot::Second, b'd' | b'D') => Some(Spot::SecondD),
-        (Spot::SecondD, b'C'..=b'F' | b'c'..=b'f') => Some(Spot::More(2)),
+    match (state, byte) {
+        (StringState::Whole, 0..=31) => None,
+        (StringState::Whole, b'\\') => Some(StringState::Backslash),
+        (StringState::Whole, _) => Some(StringState::Whole),
+        (StringState::Backslash, _) => behind_backslash(byte),
+        (StringState::Unit, b'd' | b'D') => Some(StringState::UnitD),
+        (StringState::Unit, _) => if_digit(byte, StringState::More(3)),
+        (StringState::UnitD, b'8'..=b'9' | b'A'..=b'B' | b'a'..=b'b') => Some(
+            StringState::FirstHalf(2),
+        ),
+        (StringState::UnitD, b'C'..=b'F' | b'c'..=b'f') => None,
+        (StringState::UnitD, _) => if_digit(byte, StringState::More(2)),
+        (StringState::More(left), _) if left > 1 => if_digit(byte, StringState::More(left - 1)),
+        (StringState::More(_), _) => if_digit(byte, StringState::Whole),
+        (StringState::FirstHalf(left), _) if left > 1 => if_digit(
+            byte,
+            StringState::FirstHalf(left - 1),
+        ),
+        (StringState::FirstHalf(_), _) => if_digit(byte, StringState::Half),
+        (StringState::Half, b'\\') => Some(StringState::HalfBackslash),
+        (StringState::HalfBackslash, b'u') => Some(StringState::Second),
+        (StringState::Second, b'd' | b'D') => Some(StringState::SecondD),
+        (StringState::SecondD, b'C'..=b'F' | b'c'..=b'f') => Some(StringState::More(2)),
         _ => None,
     }
 }
@@ -128,10 +133,10 @@ pub fn bytes_to_fault(bytes: &[u8]) -> usize
     ensures within { result ≤ length bytes.now }
     ensures stop { result ≡ string_stop whole bytes.now }
 {
-    let mut spot = Spot::Whole;
+    let mut state = StringState::Whole;
     for (count, byte) in bytes.iter().enumerate() {
-        match next(spot, *byte) {
-            Some(after) => spot = after,
+        match next(state, *byte) {
+            Some(after) => state = after,
             None => return count,
         }
     }

@@ -4,7 +4,7 @@ use crate::draw::generator;
 use crate::made::{encoded, objects};
 use crate::report::Report;
 use anyhow::{Result, ensure};
-use json_binary::{decode, used};
+use json_binary::{MAX_DOCUMENT_BYTES, decode, print, used};
 use json_tree::Json;
 use std::alloc::Global;
 use std::rt::Clock;
@@ -42,10 +42,30 @@ pub fn decode_rounds<R: Clock>(rt: &R, alloc: Global, rounds: u64, size: u32) ->
     })
 }
 
+/// Prints the document from its bytes once a round. The checksum is that of the text.
+pub fn print_rounds<R: Clock>(rt: &R, alloc: Global, rounds: u64, size: u32) -> Result<Report> {
+    let bytes = encoded(alloc, &objects(alloc, &mut generator(), size)?)?;
+    let mut text = Vec::new(alloc);
+    let start = Instant::now(rt)?;
+    for _ in 0..rounds {
+        text = Vec::new(alloc);
+        print(&bytes, &mut text)?;
+    }
+    let spent = start.elapsed(rt)?;
+    Ok(Report {
+        spent,
+        count: text.len() as u64,
+        checksum: checksum(&text),
+    })
+}
+
 /// Sums up how much of the document is in use once a round.
 pub fn used_rounds<R: Clock>(rt: &R, alloc: Global, rounds: u64, size: u32) -> Result<Report> {
     let bytes = encoded(alloc, &objects(alloc, &mut generator(), size)?)?;
-    ensure!(bytes.len() <= 16_777_216, "the document is too large");
+    ensure!(
+        bytes.len() <= MAX_DOCUMENT_BYTES,
+        "the document is too large"
+    );
     let _tree = decode(alloc, &bytes)?;
     let mut sum = START;
     let start = Instant::now(rt)?;

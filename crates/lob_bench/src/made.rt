@@ -4,7 +4,7 @@ ghost use Rattle.std.specs.Prelude.{◌≡◌, ◌<◌, ◌^◌, IfOk, length};
 use crate::draw::draw;
 use anyhow::{Result, ensure};
 use json_binary::encode;
-use json_tree::{Json, List, Members, Text, Whole};
+use json_tree::{Json, List, MAX_KEY_BYTES, Members, Text, Whole};
 use rand_pcg::Pcg32;
 use std::alloc::{AllocError, Global};
 
@@ -34,7 +34,7 @@ pub fn wide_object(alloc: Global, count: u32) -> Result<Json> {
     let mut members = Members::with_capacity(alloc, count as usize)?;
     for k in 0..count {
         let key = Text::new(format!(in alloc; "k{k}")?);
-        ensure!(key.len() < 65_536, "a key is too long");
+        ensure!(key.len() <= MAX_KEY_BYTES, "a key is too long");
         members.put(key, number(k))?;
     }
     Ok(Json::Object(members))

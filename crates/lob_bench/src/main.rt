@@ -28,7 +28,7 @@ fn words<R: Env + AllocGlobal>(rt: &R) -> Result<Vec<String>> {
 
 fn requested(words: &[String]) -> Result<Request> {
     let [name, rounds, size] = words else {
-        bail!("usage: lob_bench encode|decode|used|member|refuse ROUNDS SIZE");
+        bail!("usage: lob_bench encode|decode|print|used|member|refuse ROUNDS SIZE");
     };
     let Some(kernel) = Kernel::named(name.as_str()) else {
         bail!("no kernel has that name");
@@ -44,6 +44,7 @@ fn measured<R: Clock>(rt: &R, alloc: Global, request: Request) -> Result<Report>
     match request.kernel {
         Kernel::Encode => coding::encode_rounds(rt, alloc, request.rounds, request.size),
         Kernel::Decode => coding::decode_rounds(rt, alloc, request.rounds, request.size),
+        Kernel::Print => coding::print_rounds(rt, alloc, request.rounds, request.size),
         Kernel::Used => coding::used_rounds(rt, alloc, request.rounds, request.size),
         Kernel::Member => member::member_rounds(rt, alloc, request.rounds, request.size),
         Kernel::Refuse => fuzz::refuse_rounds(rt, alloc, request.rounds, request.size),

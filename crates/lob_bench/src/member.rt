@@ -32,7 +32,7 @@ pub fn member_rounds<R: Clock>(rt: &R, alloc: Global, rounds: u64, size: u32) ->
     let Some(object) = container_in(&bytes, root(&bytes)) else {
         bail!("no container");
     };
-    ensure!(object.keyed, "no object");
+    ensure!(object.is_object, "no object");
     let (mut found, mut sum) = (0u64, START);
     let start = Instant::now(rt)?;
     for _ in 0..rounds {

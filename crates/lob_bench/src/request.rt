@@ -17,6 +17,8 @@ pub enum Kernel {
     Encode,
     /// Decodes the encoding of such an array.
     Decode,
+    /// Prints such an array from its encoding.
+    Print,
     /// Sums up how much of such an encoding is in use.
     Used,
     /// Looks up 1,024 keys in an object of so many members; about every second one is absent.
@@ -32,6 +34,7 @@ impl Kernel {
         match name {
             "encode" => Some(Kernel::Encode),
             "decode" => Some(Kernel::Decode),
+            "print" => Some(Kernel::Print),
             "used" => Some(Kernel::Used),
             "member" => Some(Kernel::Member),
             "refuse" => Some(Kernel::Refuse),
@@ -45,6 +48,7 @@ impl Kernel {
         match self {
             Kernel::Encode => "encode",
             Kernel::Decode => "decode",
+            Kernel::Print => "print",
             Kernel::Used => "used",
             Kernel::Member => "member",
             Kernel::Refuse => "refuse",
@@ -54,7 +58,7 @@ impl Kernel {
     /// What its report counts.
     pub fn counted(self) -> &'static str {
         match self {
-            Kernel::Encode | Kernel::Decode | Kernel::Used => "bytes",
+            Kernel::Encode | Kernel::Decode | Kernel::Print | Kernel::Used => "bytes",
             Kernel::Member => "found",
             Kernel::Refuse => "refused",
         }

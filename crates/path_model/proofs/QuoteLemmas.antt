@@ -4,14 +4,14 @@ use Rattle.std.proofs.lemmas.Bool.{eqb-true, lt-ltb, or_parts}
 use Rattle.std.proofs.lemmas.Bool.Decides.{nat_tests}
 use Rattle.std.specs.Char.{digit_value, is_digit, is_ascii_hexdigit, encode_utf8}
 use Rattle.json.specs.Text.{content, plain, after_backslash, after_u, after_high, prepend, code_unit, short_escape, is_high_surrogate, is_low_surrogate, surrogate_pair}
-use Rattle.path_model.specs.PathText.{Spot, whole, backslash, unit, unit_d, more, first_half, half, half_backslash, second, second_d, next_spot, is_d, is_in_first, is_in_second, if_digit}
+use Rattle.path_model.specs.PathText.{StringState, whole, backslash, unit, unit_d, more, first_half, half, half_backslash, second, second_d, next_state, is_d, is_in_first, is_in_second, if_digit}
 use Rattle.path_model.specs.PathText.{string_stop, one_more}
 use Rattle.path_model.specs.Quotes.{CanGoOn}
 
 -- ---- whether each byte goes on, up to a quote that closes
 
 -- a quote closes behind a whole character
-abbrev closes_at : Spot → ℕ → Bool
+abbrev closes_at : StringState → ℕ → Bool
 closes_at whole c = c == 34
 closes_at backslash c = false
 closes_at unit c = false
@@ -23,13 +23,13 @@ closes_at half_backslash c = false
 closes_at second c = false
 closes_at second_d c = false
 
-abbrev if_on : Option Spot → (Spot → Bool) → Bool
+abbrev if_on : Option StringState → (StringState → Bool) → Bool
 if_on None go = false
 if_on (Some s) go = go s
 
-abbrev closes : Spot → List ℕ → Bool
+abbrev closes : StringState → List ℕ → Bool
 closes s [] = false
-closes s (c ∷ cs) = closes_at s c || if_on (next_spot s c) (λ next. closes next cs)
+closes s (c ∷ cs) = closes_at s c || if_on (next_state s c) (λ next. closes next cs)
 
 -- ---- the digits of a unit
 
@@ -54,7 +54,7 @@ low_value a b c d = λ la lb lc ld. grind (arith, nat_tests, la, lb, lc, ld)
 -- ---- what is too short to close
 
 -- this many bytes stand between and the next whole character
-abbrev left : Spot → ℕ
+abbrev left : StringState → ℕ
 left whole = 0
 left backslash = 1
 left unit = 4
@@ -66,15 +66,15 @@ left half_backslash = 5
 left second = 4
 left second_d = 3
 
-if_some : (b : Bool) (s : Spot) (o : Option Spot) (cs : List ℕ) → closes s cs ≡ false → if_on o (λ next. closes next cs) ≡ false → if_on (if b then Some s else o) (λ next. closes next cs) ≡ false
+if_some : (b : Bool) (s : StringState) (o : Option StringState) (cs : List ℕ) → closes s cs ≡ false → if_on o (λ next. closes next cs) ≡ false → if_on (if b then Some s else o) (λ next. closes next cs) ≡ false
 if_some true s o cs h g = h
 if_some false s o cs h g = g
 
-if_none : (b : Bool) (o : Option Spot) (cs : List ℕ) → if_on o (λ next. closes next cs) ≡ false → if_on (if b then None else o) (λ next. closes next cs) ≡ false
+if_none : (b : Bool) (o : Option StringState) (cs : List ℕ) → if_on o (λ next. closes next cs) ≡ false → if_on (if b then None else o) (λ next. closes next cs) ≡ false
 if_none true o cs h = refl
 if_none false o cs h = h
 
-short : (s : Spot) (cs : List ℕ) → length cs ≤ left s → closes s cs ≡ false
+short : (s : StringState) (cs : List ℕ) → length cs ≤ left s → closes s cs ≡ false
 short s [] le = refl
 short whole (c ∷ cs) le = absurd (omega (arith, le))
 short backslash (c ∷ cs) le =
@@ -103,7 +103,7 @@ short second_d (c ∷ cs) le = if_some (is_in_second c) (more 2) None cs (short 
 
 -- ---- a unit, and the second half of a pair
 
-if_one : (b : Bool) (s : Spot) (cs : List ℕ) → if_on (if b then Some s else None) (λ next. closes next cs) ≡ b && closes s cs
+if_one : (b : Bool) (s : StringState) (cs : List ℕ) → if_on (if b then Some s else None) (λ next. closes next cs) ≡ b && closes s cs
 if_one true s cs = refl
 if_one false s cs = refl
 
@@ -334,7 +334,7 @@ abbrev second_half : List ℕ
 second_half = 100 ∷ 99 ∷ 48 ∷ 48 ∷ 34 ∷ []
 
 -- what closes the string from here
-abbrev rest_from : Spot → List ℕ
+abbrev rest_from : StringState → List ℕ
 rest_from whole = 34 ∷ []
 rest_from backslash = 110 ∷ 34 ∷ []
 rest_from unit = 48 ∷ 48 ∷ 48 ∷ 48 ∷ 34 ∷ []
@@ -356,7 +356,7 @@ zeros_half zero = refl
 zeros_half (suc zero) = refl
 zeros_half (suc (suc n)) = let one_less : suc (suc n) - 1 ≡ suc n = omega arith in rw (lt-ltb 1 (suc (suc n)) (omega arith), one_less) (zeros_half (suc n))
 
-rest_closes : (s : Spot) → closes s (rest_from s) ≡ true
+rest_closes : (s : StringState) → closes s (rest_from s) ≡ true
 unfolding short_escape
 rest_closes whole = refl
 rest_closes backslash = refl
@@ -369,33 +369,35 @@ rest_closes half_backslash = refl
 rest_closes second = refl
 rest_closes second_d = refl
 
-goes_on : (s : Spot) (cs : List ℕ) → (rest : List ℕ) × (closes s (take (string_stop s cs) cs ++ rest) ≡ true)
+goes_on : (s : StringState) (cs : List ℕ) → (rest : List ℕ) × (closes s (take (string_stop s cs) cs ++ rest) ≡ true)
 goes_on s [] = (rest_from s, rest_closes s)
-goes_on s (c ∷ cs) = go (next_spot s c) refl (λ t. goes_on t cs)
+goes_on s (c ∷ cs) = go (next_state s c) refl (λ t. goes_on t cs)
   where
-    go : (o : Option Spot) → next_spot s c ≡ o → ((t : Spot) → (rest : List ℕ) × (closes t (take (string_stop t cs) cs ++ rest) ≡ true))
+    go : (o : Option StringState) → next_state s c ≡ o → ((t : StringState) → (rest : List ℕ) × (closes t (take (string_stop t cs) cs ++ rest) ≡ true))
         → (rest : List ℕ) × (closes s (take (one_more o (λ next. string_stop next cs)) (c ∷ cs) ++ rest) ≡ true)
     go None e on = (rest_from s, rest_closes s)
     go (Some t) e on = ((on t).0, rw (take_on (string_stop t cs) c cs, e, (on t).1) (or_true (closes_at s c)))
 
-stops : (s : Spot) (cs rest : List ℕ) → closes s cs ≡ false → string_stop s cs < length cs → closes s (take (string_stop s cs + 1) cs ++ rest) ≡ false
+stops : (s : StringState) (cs rest : List ℕ) → closes s cs ≡ false → string_stop s cs < length cs → closes s (take (string_stop s cs + 1) cs ++ rest) ≡ false
 stops s [] rest off lt = absurd (omega (arith, lt))
-stops s (c ∷ cs) rest off lt = go (next_spot s c) refl (or_parts (closes_at s c) (if_on (next_spot s c) (λ next. closes next cs)) off).1 lt (λ t. stops t cs rest)
+stops s (c ∷ cs) rest off lt = go (next_state s c) refl (or_parts (closes_at s c) (if_on (next_state s c) (λ next. closes next cs)) off).1 lt (λ t. stops t cs rest)
   where
     here : closes_at s c ≡ false
-    here = (or_parts (closes_at s c) (if_on (next_spot s c) (λ next. closes next cs)) off).0
+    here = (or_parts (closes_at s c) (if_on (next_state s c) (λ next. closes next cs)) off).0
 
-    go : (o : Option Spot) → next_spot s c ≡ o → if_on o (λ next. closes next cs) ≡ false → one_more o (λ next. string_stop next cs) < suc (length cs)
-        → ((t : Spot) → closes t cs ≡ false → string_stop t cs < length cs → closes t (take (string_stop t cs + 1) cs ++ rest) ≡ false)
+    go : (o : Option StringState) → next_state s c ≡ o → if_on o (λ next. closes next cs) ≡ false → one_more o (λ next. string_stop next cs) < suc (length cs)
+        → ((t : StringState) → closes t cs ≡ false → string_stop t cs < length cs → closes t (take (string_stop t cs + 1) cs ++ rest) ≡ false)
         → closes s (take (one_more o (λ next. string_stop next cs) + 1) (c ∷ cs) ++ rest) ≡ false
     go None e off_on below on = rw (here, e) refl
     go (Some t) e off_on below on = rw (take_on (string_stop t cs + 1) c cs, here, e) (on t off_on (omega (arith, below)))
 
+-- the bytes before the place can become a string of JSON
 pub front_goes_on : (bytes : List ℕ) → CanGoOn (take (string_stop whole bytes) bytes)
 front_goes_on bytes =
     let on = goes_on whole bytes in
     (on.0, sym (quote_closes (take (string_stop whole bytes) bytes ++ on.0)) ∙ on.1)
 
+-- with the byte at the place they can't
 pub byte_stops : (bytes : List ℕ) → content plain bytes ≡ None → string_stop whole bytes < length bytes → CanGoOn (take (string_stop whole bytes + 1) bytes) → ⊥
 byte_stops bytes none lt on =
     true≢false (sym on.1 ∙ sym (quote_closes (take (string_stop whole bytes + 1) bytes ++ on.0)) ∙ stops whole bytes on.0 (quote_closes bytes ∙ ap is_some none) lt)

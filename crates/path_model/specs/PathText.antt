@@ -6,6 +6,7 @@ use Rattle.std.specs.List.{list_all, list_any, starts_with}
 use Rattle.std.specs.Char.{is_ascii_alphabetic, is_ascii_digit, is_ascii_hexdigit}
 use Rattle.json.specs.Print.{quoted}
 use Rattle.json.specs.Text.{content, plain, short_escape}
+use Rattle.tree_model.specs.Tree.{max_key_bytes}
 use Rattle.tree_model.specs.Path.{Leg, key, cell, last, Path}
 
 -- ---- the text of a path
@@ -44,17 +45,17 @@ pub data PathFault : Type 0 where
 
 -- where a scan of a string stands: behind a whole character, behind a backslash, behind `\u`, behind `\ud`, before the last digits of a unit, before
 -- those of the first half of a surrogate pair, behind that half, and behind the backslash, the `\u` and the `\ud` of the second
-pub data Spot : Type 0 where
-  whole : Spot
-  backslash : Spot
-  unit : Spot
-  unit_d : Spot
-  more : ℕ → Spot
-  first_half : ℕ → Spot
-  half : Spot
-  half_backslash : Spot
-  second : Spot
-  second_d : Spot
+pub data StringState : Type 0 where
+  whole : StringState
+  backslash : StringState
+  unit : StringState
+  unit_d : StringState
+  more : ℕ → StringState
+  first_half : ℕ → StringState
+  half : StringState
+  half_backslash : StringState
+  second : StringState
+  second_d : StringState
 
 abbrev pub is_d : ℕ → Bool
 is_d c = (c == 68) || (c == 100)
@@ -67,49 +68,49 @@ is_in_first c = (nat_le 56 c && nat_le c 57) || ((nat_le 65 c && nat_le c 66) ||
 abbrev pub is_in_second : ℕ → Bool
 is_in_second c = (nat_le 67 c && nat_le c 70) || (nat_le 99 c && nat_le c 102)
 
-abbrev pub if_digit : ℕ → Spot → Option Spot
+abbrev pub if_digit : ℕ → StringState → Option StringState
 if_digit c s = if is_ascii_hexdigit c then Some s else None
 
 -- where the byte leads in a string, None where it can't go on: a second half stands behind a first one alone
-abbrev pub next_spot : Spot → ℕ → Option Spot
-next_spot whole c = if nat_lt c 32 then None else Some (if c == 92 then backslash else whole)
-next_spot backslash c = if c == 117 then Some unit else (if is_some (short_escape c) then Some whole else None)
-next_spot unit c = if is_d c then Some unit_d else if_digit c (more 3)
-next_spot unit_d c = if is_in_first c then Some (first_half 2) else (if is_in_second c then None else if_digit c (more 2))
-next_spot (more n) c = if_digit c (if nat_lt 1 n then more (n - 1) else whole)
-next_spot (first_half n) c = if_digit c (if nat_lt 1 n then first_half (n - 1) else half)
-next_spot half c = if c == 92 then Some half_backslash else None
-next_spot half_backslash c = if c == 117 then Some second else None
-next_spot second c = if is_d c then Some second_d else None
-next_spot second_d c = if is_in_second c then Some (more 2) else None
+abbrev pub next_state : StringState → ℕ → Option StringState
+next_state whole c = if nat_lt c 32 then None else Some (if c == 92 then backslash else whole)
+next_state backslash c = if c == 117 then Some unit else (if is_some (short_escape c) then Some whole else None)
+next_state unit c = if is_d c then Some unit_d else if_digit c (more 3)
+next_state unit_d c = if is_in_first c then Some (first_half 2) else (if is_in_second c then None else if_digit c (more 2))
+next_state (more n) c = if_digit c (if nat_lt 1 n then more (n - 1) else whole)
+next_state (first_half n) c = if_digit c (if nat_lt 1 n then first_half (n - 1) else half)
+next_state half c = if c == 92 then Some half_backslash else None
+next_state half_backslash c = if c == 117 then Some second else None
+next_state second c = if is_d c then Some second_d else None
+next_state second_d c = if is_in_second c then Some (more 2) else None
 
-abbrev pub one_more : Option Spot → (Spot → ℕ) → ℕ
+abbrev pub one_more : Option StringState → (StringState → ℕ) → ℕ
 one_more None go = 0
 one_more (Some s) go = go s + 1
 
 -- how many bytes of a string that JSON doesn't read go on
-abbrev pub string_stop : Spot → List ℕ → ℕ
+abbrev pub string_stop : StringState → List ℕ → ℕ
 string_stop s [] = 0
-string_stop s (c ∷ cs) = one_more (next_spot s c) (λ next. string_stop next cs)
+string_stop s (c ∷ cs) = one_more (next_state s c) (λ next. string_stop next cs)
 
 -- where a scan of a path stands: before its `$`, where a leg may begin, behind a dot, behind these bytes of a bare key, in the quotes of this
 -- key, there behind a backslash, behind a bracket, in `last` before these letters, behind `last-`, and behind count digits of a number
 -- (from the end or not; the place of the first digit; their value)
-pub data Mode : Type 0 where
-  start : Mode
-  between : Mode
-  dot : Mode
-  bare : List ℕ → Mode
-  inside : List ℕ → Mode
-  escaped : List ℕ → Mode
-  bracket : Mode
-  letters : List ℕ → Mode
-  minus : Mode
-  digits : Bool → ℕ → ℕ → ℕ → Mode
+pub data PathState : Type 0 where
+  start : PathState
+  between : PathState
+  dot : PathState
+  bare : List ℕ → PathState
+  inside : List ℕ → PathState
+  escaped : List ℕ → PathState
+  bracket : PathState
+  letters : List ℕ → PathState
+  minus : PathState
+  digits : Bool → ℕ → ℕ → ℕ → PathState
 
 -- what a scan that goes on gives
 abbrev pub Goes : Type 0
-Goes = Mode → Path → Result Path PathFault
+Goes = PathState → Path → Result Path PathFault
 
 abbrev pub begun_leg : ℕ → Path → ℕ → Goes → Result Path PathFault
 begun_leg c ls at go =
@@ -136,7 +137,7 @@ abbrev pub index_leg : Bool → ℕ → Leg
 index_leg from_end n = if from_end then last n else cell n
 
 -- the byte c at this place, before cs
-abbrev pub step : Mode → ℕ → List ℕ → Path → ℕ → Goes → Result Path PathFault
+abbrev pub step : PathState → ℕ → List ℕ → Path → ℕ → Goes → Result Path PathFault
 step start c cs ls at go = if c == 36 then go between ls else Err (Syntax at)
 step between c cs ls at go = begun_leg c ls at go
 step dot c cs ls at go =
@@ -155,18 +156,18 @@ step (digits from_end first count value) c cs ls at go =
     if is_ascii_digit c then one_digit from_end first count value c ls go else closed_index (index_leg from_end value) c cs ls at go
 
 -- where the text ends
-abbrev pub ended : Mode → Path → ℕ → Result Path PathFault
+abbrev pub ended : PathState → Path → ℕ → Result Path PathFault
 ended between ls at = Ok ls
 ended (bare k) ls at = Ok (ls ++ key k ∷ [])
 ended m ls at = Err (Syntax at)
 
 -- behind the legs ls, at this place
-abbrev pub scan : Mode → Path → ℕ → List ℕ → Result Path PathFault
+abbrev pub scan : PathState → Path → ℕ → List ℕ → Result Path PathFault
 scan m ls at [] = ended m ls at
 scan m ls at (c ∷ cs) = step m c cs ls at (λ next more. scan next more (at + 1) cs)
 
 abbrev pub is_long : Leg → Bool
-is_long (key k) = nat_le (2 ^ 16) (length k)
+is_long (key k) = nat_lt max_key_bytes (length k)
 is_long (cell n) = false
 is_long (last n) = false
 

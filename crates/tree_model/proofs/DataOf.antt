@@ -1,15 +1,16 @@
 -- The data that a printed tree is read as, and the tree that this data is.
-use Rattle.std.proofs.Common.{◌≡◌, ℕ, ◌^◌, ◌<◌, ℤ, pos, negsuc, Bool, true, false, ◌||◌, List, length, nat_le, refl, sym, ap, ◌∙◌, arith, Ordering, Less, Equal, Greater, is_eq, true≢false, nat_cmp}
+use Rattle.std.proofs.Common.{◌≡◌, ℕ, ◌^◌, ◌<◌, ◌≤◌, ℤ, pos, negsuc, Bool, true, false, ◌||◌, List, length, nat_lt, refl, sym, ap, ◌∙◌, arith, Ordering, Less, Equal, Greater, is_eq, true≢false, nat_cmp}
 use Rattle.std.specs.Cmp.Lexicographic.{slice_cmp}
 use Rattle.std.specs.Ordering.{match_ordering}
 use Rattle.std.proofs.lemmas.Bool.Decides.{nat_tests}
 use Rattle.serde_json.specs.Data as json_data
 use Rattle.serde_json.specs.Data.{Data, Num}
 use Rattle.serde_json.specs.Written.{has_float, items_have_float, members_have_float}
-use Rattle.tree_model.specs.Tree.{Tree, null, boolean, number, text, array, object, Trees, no_trees, tree, Members, no_members, member, member_list, put, key_cmp, AreMembers, IsTree, AreTrees, HoldTrees}
+use Rattle.tree_model.specs.Tree.{Tree, null, boolean, number, text, array, object, Trees, no_trees, tree, Members, no_members, member, member_list, put, key_cmp, AreMembers, max_key_bytes, IsTree, AreTrees, HoldTrees}
 use Rattle.tree_model.specs.Text.{of_data, of_items, of_members, has_long_key, items_have_long_key, members_have_long_key}
-use Rattle.tree_model.proofs.KeyOrder.{itself, turned, same_key, swap_put, Above, Rising, rising_from, put_all, put_all-itself}
+use Rattle.tree_model.proofs.KeyOrder.{itself, turned, same_key, swap_put, Above, Rising, rising_from, put_members, put_members-itself}
 
+-- a whole number as a number of JSON's data
 abbrev pub num_of : ℤ → Num
 num_of (pos n) = json_data.unsigned n
 num_of (negsuc n) = json_data.negative (negsuc n)
@@ -24,10 +25,12 @@ abbrev mutual
   data_of (array ts) = json_data.array (items_of ts)
   data_of (object ms) = json_data.object (members_of ms json_data.no_members)
 
+  -- values as the items of data
   pub items_of : Trees → json_data.Items
   items_of no_trees = json_data.no_items
   items_of (tree t ts) = json_data.item (data_of t) (items_of ts)
 
+  -- members put behind those that data has
   pub members_of : Members → json_data.Members → json_data.Members
   members_of no_members found = found
   members_of (member k t ms) found = members_of ms (json_data.put k (data_of t) found)
@@ -81,6 +84,7 @@ all_apart_put no_members ds l d up apart = tt
 all_apart_put (member k t ms) ds l d up apart = (apart_put ds k l d apart.0 (ap is_eq (turned l k Less up.0)), all_apart_put ms ds l d up.1 apart.1)
 
 mutual
+  -- a tree made data and made a tree again is that tree
   pub of_data-data_of : (t : Tree) → IsTree t → of_data (data_of t) ≡ t
   of_data-data_of null is = refl
   of_data-data_of (boolean b) is = refl
@@ -90,17 +94,17 @@ mutual
   of_data-data_of (array ts) is = ap array (of_items-items_of ts is)
   of_data-data_of (object ms) is =
       let up : Rising ms = rising_from ms is.0 in
-      ap object (of_members-members_of ms json_data.no_members no_members up (none ms) is.1 ∙ put_all-itself ms up)
+      ap object (of_members-members_of ms json_data.no_members no_members up (none ms) is.1 ∙ put_members-itself ms up)
 
   of_items-items_of : (ts : Trees) → AreTrees ts → of_items (items_of ts) ≡ ts
   of_items-items_of no_trees are = refl
   of_items-items_of (tree t ts) are = λ i. tree (of_data-data_of t are.0 i) (of_items-items_of ts are.1 i)
 
-  of_members-members_of : (ms : Members) (ds : json_data.Members) (found : Members) → Rising ms → AllApart ms ds → HoldTrees ms → of_members (members_of ms ds) found ≡ put_all ms (of_members ds found)
+  of_members-members_of : (ms : Members) (ds : json_data.Members) (found : Members) → Rising ms → AllApart ms ds → HoldTrees ms → of_members (members_of ms ds) found ≡ put_members ms (of_members ds found)
   of_members-members_of no_members ds found up apart hold = refl
   of_members-members_of (member k t ms) ds found up apart hold =
       of_members-members_of ms (json_data.put k (data_of t) ds) found up.1 (all_apart_put ms ds k (data_of t) up.0 apart.1) hold.1
-      ∙ ap (put_all ms) (after_put ds k (data_of t) found apart.0 ∙ swap_all ds k (of_data (data_of t)) found apart.0 ∙ ap (λ u. put k u (of_members ds found)) (of_data-data_of t hold.0))
+      ∙ ap (put_members ms) (after_put ds k (data_of t) found apart.0 ∙ swap_all ds k (of_data (data_of t)) found apart.0 ∙ ap (λ u. put k u (of_members ds found)) (of_data-data_of t hold.0))
 
   none : (ms : Members) → AllApart ms json_data.no_members
   none no_members = tt
@@ -126,6 +130,7 @@ float_put (json_data.member l f ds) k d e h = go (slice_cmp nat_cmp k l) (both (
     go Greater g more = rw g.0 (more g.1)
 
 mutual
+  -- the data of a tree has no float
   pub has_float-data_of : (t : Tree) → has_float (data_of t) ≡ false
   has_float-data_of null = refl
   has_float-data_of (boolean b) = refl
@@ -143,17 +148,18 @@ mutual
   members_have_float-members_of no_members ds h = h
   members_have_float-members_of (member k t ms) ds h = members_have_float-members_of ms (json_data.put k (data_of t) ds) (float_put ds k (data_of t) (has_float-data_of t) h)
 
-long_put : (ds : json_data.Members) (k : List ℕ) (d : Data) → nat_le (2 ^ 16) (length k) ≡ false → has_long_key d ≡ false → members_have_long_key ds ≡ false → members_have_long_key (json_data.put k d ds) ≡ false
+long_put : (ds : json_data.Members) (k : List ℕ) (d : Data) → nat_lt max_key_bytes (length k) ≡ false → has_long_key d ≡ false → members_have_long_key ds ≡ false → members_have_long_key (json_data.put k d ds) ≡ false
 long_put json_data.no_members k d s e h = rw (s, e) refl
-long_put (json_data.member l f ds) k d s e h = go (slice_cmp nat_cmp k l) (both (nat_le (2 ^ 16) (length l)) (has_long_key f || members_have_long_key ds) h) (long_put ds k d s e)
+long_put (json_data.member l f ds) k d s e h = go (slice_cmp nat_cmp k l) (both (nat_lt max_key_bytes (length l)) (has_long_key f || members_have_long_key ds) h) (long_put ds k d s e)
   where
-    go : (o : Ordering) → (nat_le (2 ^ 16) (length l) ≡ false) × (has_long_key f || members_have_long_key ds ≡ false) → (members_have_long_key ds ≡ false → members_have_long_key (json_data.put k d ds) ≡ false)
+    go : (o : Ordering) → (nat_lt max_key_bytes (length l) ≡ false) × (has_long_key f || members_have_long_key ds ≡ false) → (members_have_long_key ds ≡ false → members_have_long_key (json_data.put k d ds) ≡ false)
         → members_have_long_key (match_ordering o (json_data.member k d (json_data.member l f ds)) (json_data.member l d ds) (json_data.member l f (json_data.put k d ds))) ≡ false
     go Less g more = rw (s, e, g.0) g.1
     go Equal g more = rw (g.0, e) (both (has_long_key f) (members_have_long_key ds) g.1).1
     go Greater g more = let parts = both (has_long_key f) (members_have_long_key ds) g.1 in rw (g.0, parts.0) (more parts.1)
 
 mutual
+  -- and no key that is too long
   pub has_long_key-data_of : (t : Tree) → IsTree t → has_long_key (data_of t) ≡ false
   has_long_key-data_of null is = refl
   has_long_key-data_of (boolean b) is = refl
@@ -176,6 +182,6 @@ mutual
   rest_are k t no_members are = tt
   rest_are k t (member l u ms) are = are.2
 
-  short_first : (k : List ℕ) (t : Tree) (ms : Members) → AreMembers (member_list (member k t ms)) → nat_le (2 ^ 16) (length k) ≡ false
-  short_first k t no_members are = let short : length k < 2 ^ 16 = are.0 in grind (arith, nat_tests, short)
-  short_first k t (member l u ms) are = let short : length k < 2 ^ 16 = are.0.0 in grind (arith, nat_tests, short)
+  short_first : (k : List ℕ) (t : Tree) (ms : Members) → AreMembers (member_list (member k t ms)) → nat_lt max_key_bytes (length k) ≡ false
+  short_first k t no_members are = let short : length k ≤ max_key_bytes = are.0 in grind (arith, nat_tests, short)
+  short_first k t (member l u ms) are = let short : length k ≤ max_key_bytes = are.0.0 in grind (arith, nat_tests, short)

@@ -8,15 +8,19 @@ use Rattle.std.proofs.lemmas.Map.Text.{is_eq-slice_cmp}
 use Rattle.std.proofs.lemmas.Slice.Eq.{bytes_eq-Decides}
 use Rattle.tree_model.specs.Tree.{Tree, Members, no_members, member, key_cmp, get, put}
 
+-- the order of keys is total
 pub key_total : IsTotalOrder key_cmp
 key_total = then_total (on_total length nat_cmp_total) nat_list_cmp_total
 
+-- each key equals itself in it
 pub itself : (k : List ℕ) → key_cmp k k ≡ Equal
 itself k = tied_itself key_total k
 
+-- two keys turned round compare the other way
 pub turned : (a b : List ℕ) (o : Ordering) → key_cmp a b ≡ o → key_cmp b a ≡ ordering_reverse o
 turned a b o e = key_total.antisymm b a ∙ ap ordering_reverse e
 
+-- keys that compare equal are equal
 pub same_key : (a b : List ℕ) → slice_cmp nat_cmp a b ≡ Equal → a ≡ b
 same_key a b e = (bytes_eq-Decides a b).0 (sym (is_eq-slice_cmp a b) ∙ ap is_eq e)
 
@@ -37,9 +41,11 @@ key_apart a b n = go (bytes_eq a b) refl
     go false e = refl
     go true e = absurd (true≢false (sym (ap is_eq (itself a)) ∙ ap (λ k. is_eq (key_cmp a k)) ((bytes_eq-Decides a b).0 e) ∙ n))
 
+-- the test of equal bytes tells each list equal to itself
 pub same_bytes : (k : List ℕ) → bytes_eq k k ≡ true
 same_bytes k = (bytes_eq-Decides k k).1 refl
 
+-- and unequal ones apart
 pub other_bytes : (j k : List ℕ) → j ≢ k → bytes_eq j k ≡ false
 other_bytes j k h = go (bytes_eq j k) refl
   where
@@ -49,6 +55,7 @@ other_bytes j k h = go (bytes_eq j k) refl
 
 -- ---- a member that was put
 
+-- a member that was put is found
 pub get-put_same : (k : List ℕ) (t : Tree) (ms : Members) → get k (put k t ms) ≡ Some t
 get-put_same k t no_members = rw (same_bytes k) refl
 get-put_same k t (member l u ms) = go (key_cmp k l) (get-put_same k t ms) refl
@@ -58,6 +65,7 @@ get-put_same k t (member l u ms) = go (key_cmp k l) (get-put_same k t ms) refl
     go Equal rest e = let tied : bytes_eq k l ≡ true = (bytes_eq-Decides k l).1 (key_equal k l e) in rw tied refl
     go Greater rest e = let apart : bytes_eq k l ≡ false = key_apart k l (ap is_eq e) in rw apart rest
 
+-- and each other member as before
 pub get-put_other : (j k : List ℕ) (t : Tree) (ms : Members) → j ≢ k → get j (put k t ms) ≡ get j ms
 get-put_other j k t no_members h = rw (other_bytes j k h) refl
 get-put_other j k t (member l u ms) h = go (key_cmp k l) (get-put_other j k t ms h) refl

@@ -8,6 +8,7 @@ Pair = List ℕ × Tree
 
 -- ---- two keys that differ may be put in in either order
 
+-- two members with different keys are put in either order
 pub swap_put : (k l : List ℕ) (t u : Tree) (ms : Members) → is_eq (key_cmp k l) ≡ false → put k t (put l u ms) ≡ put l u (put k t ms)
 swap_put k l t u no_members apart = go (key_cmp k l) refl apart
   where
@@ -43,10 +44,12 @@ swap_put k l t u (member m v ms) apart = go (key_cmp k m) refl (key_cmp l m) ref
 
 -- ---- members that rise
 
+-- a key is smaller than that of each member
 abbrev pub Above : List ℕ → Members → Type 0
 Above k no_members = Unit {0}
 Above k (member l u ms) = (key_cmp k l ≡ Less) × Above k ms
 
+-- each member's key is smaller than those behind it
 abbrev pub Rising : Members → Type 0
 Rising no_members = Unit {0}
 Rising (member k t ms) = Above k ms × Rising ms
@@ -55,6 +58,7 @@ above_first : (k l : List ℕ) (ms : Members) → key_cmp k l ≡ Less → Above
 above_first k l no_members lt up = tt
 above_first k l (member m u ms) lt up = (key_total.trans k l m lt up.0, above_first k l ms lt up.1)
 
+-- an object's members rise
 pub rising_from : (ms : Members) → AreMembers (member_list ms) → Rising ms
 rising_from no_members are = tt
 rising_from (member k t no_members) are = (tt, tt)
@@ -88,9 +92,9 @@ under_more k l t no_members under lt = (turned k l Less lt, tt)
 under_more k l t (member m u ms) under lt = (turned m l Less (key_total.trans m k l (turned k m Greater under.0) lt), under_more k l t ms under.1 lt)
 
 -- one after another
-abbrev pub put_all : Members → Members → Members
-put_all no_members found = found
-put_all (member k t ms) found = put_all ms (put k t found)
+abbrev pub put_members : Members → Members → Members
+put_members no_members found = found
+put_members (member k t ms) found = put_members ms (put k t found)
 
 abbrev UnderFirst : Members → Members → Type 0
 UnderFirst found no_members = Unit {0}
@@ -100,12 +104,12 @@ under_first : (k : List ℕ) (t : Tree) (found ms : Members) → Under found k �
 under_first k t found no_members under up = tt
 under_first k t found (member l u ms) under up = under_more k l t found under up.0
 
-put_all-append : (ms found : Members) → Rising ms → UnderFirst found ms → put_all ms found ≡ append found ms
-put_all-append no_members found up under = sym (append-no_members found)
-put_all-append (member k t ms) found up under =
-    ap (put_all ms) (put_last k t found under) ∙ put_all-append ms (append found (member k t no_members)) up.1 (under_first k t found ms under up.0) ∙ append_assoc found (member k t no_members) ms
+put_members-append : (ms found : Members) → Rising ms → UnderFirst found ms → put_members ms found ≡ append found ms
+put_members-append no_members found up under = sym (append-no_members found)
+put_members-append (member k t ms) found up under =
+    ap (put_members ms) (put_last k t found under) ∙ put_members-append ms (append found (member k t no_members)) up.1 (under_first k t found ms under up.0) ∙ append_assoc found (member k t no_members) ms
 
 -- members that rise are what putting them in one after another gives
-pub put_all-itself : (ms : Members) → Rising ms → put_all ms no_members ≡ ms
-put_all-itself no_members up = refl
-put_all-itself (member k t ms) up = put_all-append (member k t ms) no_members up tt
+pub put_members-itself : (ms : Members) → Rising ms → put_members ms no_members ≡ ms
+put_members-itself no_members up = refl
+put_members-itself (member k t ms) up = put_members-append (member k t ms) no_members up tt

@@ -71,9 +71,11 @@ no_minus : (ds : List ℕ) → 0 < length ds → AllDigits 10 ds → (head ds ==
 no_minus [] some all = absurd (omega (arith, some))
 no_minus (d ∷ ds) some all = let range : IsInRange 48 57 d = digit_from_value d all.0 in ne_eqb d 45 (λ e. omega (arith, range.0, e))
 
+-- a whole number from 0 on has 64 bits
 pub whole_pos : (n : ℕ) → IsWhole (pos n) → n < 2 ^ 64
 whole_pos n is = ltb→lt n (2 ^ 64) is.1.lt
 
+-- a negative one has 63 and a sign
 pub whole_negsuc : (n : ℕ) → IsWhole (negsuc n) → n < 2 ^ 63
 whole_negsuc n is = let le : n ≤ 2 ^ 63 - 1 = leb→le n (2 ^ 63 - 1) is.0.le in omega (arith, le)
 
@@ -254,6 +256,7 @@ tokens-tree_text t is =
     let printable = subst ArePrintable (sym (same ∙ append-nil (json_tokens (json_of t)))) (ArePrintable-json_tokens (json_of t) (has_numbers t is)) in
     ap tokens (sym (tree_printed false [] t [] ∙ append-nil (tree_text t))) ∙ tokens-print_spaced (tree_pieces [] t []) (tree_gaps [] t [] tt tt) printable ∙ same
 
+-- a tree's text is read as the tree's data
 pub read-tree_text : (t : Tree) → IsTree t → depth t ≤ 127 → read (tree_text t) ≡ Some (data_of t)
 read-tree_text t is shallow =
     ap (λ ts. option_and_then of_json (option_and_then (λ p. json.if_last p.0 p.1) (json.value 127 ts))) (tokens-tree_text t is)

@@ -114,6 +114,7 @@ mutual
       ∙ colon_space ((tree_text t ++ members_text true ms) ++ r) n (omega (arith, few))
       ∙ ap (deepens outside n) (append_assoc (tree_text t) (members_text true ms) r) ∙ tree_outside t (members_text true ms ++ r) n hold.0 (omega (arith, few)) ∙ members_outside true ms r n hold.1 (omega (arith, few))
 
+-- the text of a tree that isn't too deep is read as that tree
 pub read_tree-tree_text : (t : Tree) → IsTree t → depth t ≤ 100 → read_tree (tree_text t) ≡ Ok t
 read_tree-tree_text t is few =
     let shallow = ap (deepens outside 0) (sym (append-nil (tree_text t))) ∙ tree_outside t [] 0 is (omega (arith, few)) in

@@ -1,5 +1,4 @@
-use Rattle.std.proofs.Common.{◌≡◌, map}
-use Rattle.std.specs.Vec.Iter.{into_iter_items}
+use Rattle.std.proofs.Common.{◌≡◌, drop, map}
 use Rattle.json_tree.specs.View.{tree_of}
 use Rattle.tree_model.specs.Edit.{replace_all}
 use Rattle.json_edit.specs.Edits.{assigned}
@@ -7,6 +6,4 @@ use Rattle.json_edit.proofs.statement.replace_all.Given as goal
 
 -- what the pairs that are left make of the tree so far is what all make of it
 abbrev pub invariant-loop-pair : goal.invariant-loop-pair
-invariant-loop-pair l =
-    replace_all (map assigned (into_iter_items l.pair-iterator)) (tree_of l.tree)
-    ≡ replace_all (map assigned l.fn.pairs.items) (tree_of l.initial.tree)
+invariant-loop-pair l = replace_all (map assigned (drop l.pair-index l.pairs)) (tree_of l.tree) ≡ replace_all (map assigned l.pairs) (tree_of l.initial.tree)

@@ -1,0 +1,5 @@
+use Rattle.json_binary.proofs.WordLemmas.{in_place}
+use Rattle.json_binary.proofs.cursor.layout.four_at.Goals as goal
+
+pub returns : goal.returns
+returns c = in_place c.args.bytes.now c.args.at 4 c.read_u32.result c.requires.inside c.read_u32.ensures
