@@ -1,35 +1,35 @@
--- A pair made in place on a draft, left as it is, or not to be made in place.
+-- What a pair makes of bytes that stand for a tree, and of a draft.
 use Rattle.std.proofs.Common.{◌≡◌, ℕ, ◌+◌, ◌≤◌, ◌<◌, Bool, true, false, ◌||◌, List, [], ◌∷◌, ◌++◌, length, map, Option, Some, None, is_some, true≢false, option_map, option_and_then, unwrap_or, refl, sym, ap, subst, ◌∙◌, arith, cond, if◌then◌else◌}
 use Rattle.tree_model.specs.Tree.{Tree, IsTree, depth}
 use Rattle.tree_model.specs.Path.{Leg, Path, child as tree_child, with_child}
 use Rattle.tree_model.specs.Same.{same_tree}
-use Rattle.tree_model.specs.Edit.{at_parent, replaced, set, replace}
+use Rattle.tree_model.specs.Edit.{at_parent, replaced, try_set, set, replace}
 use Rattle.tree_model.proofs.SameLemmas.{tree_equal, tree_itself}
 use Rattle.binary_model.specs.Layout as layout
-use Rattle.binary_model.specs.Stands.{IsValue}
+use Rattle.binary_model.specs.Stands.{IsValue, Stands}
 use Rattle.binary_model.specs.Canonical.{spelling}
-use Rattle.binary_model.specs.Change.{SetsTrees, position_of, positions, at_holder, with_value, Progress, step, replaced_by, progress}
-use Rattle.binary_model.proofs.AgreeLemmas.{some_is}
-use Rattle.json_patch.proofs.PlanLemmas.{stands_on}
-use Rattle.binary_model.proofs.LiftLemmas.{Reaches}
-use Rattle.binary_model.proofs.PositionLemmas.{put_at, set_positions, replace_positions}
-use Rattle.json_binary.specs.declared.place.Container.{Container}
+use Rattle.binary_model.specs.Change.{SetsTrees, position_of, positions, at_holder, with_value, Progress, step, replaced_by, progress, runs}
+use Rattle.binary_model.proofs.in_place.AgreeLemmas.{some_is}
+use Rattle.binary_model.proofs.in_place.LiftLemmas.{Reaches}
+use Rattle.binary_model.proofs.in_place.PositionLemmas.{put_at, set_positions, replace_positions}
 use Rattle.json_binary.specs.Place.{container_of}
 use Rattle.json_patch.specs.declared.draft.Draft.{Draft}
-use Rattle.json_patch.specs.declared.place.Place.{Place as PlaceOf}
-use Rattle.json_patch.specs.declared.place.Place.TheVariants.{Root}
-use Rattle.json_patch.specs.Led.{Adds, IsLed}
+use Rattle.json_patch.specs.declared.parts.Parts.{Parts as Changed}
+use Rattle.json_patch.specs.View.{runs_of}
+use Rattle.json_patch.specs.declared.lead.Place.{Place}
+use Rattle.json_patch.specs.declared.writes.Write.{Write}
+use Rattle.json_patch.specs.declared.pair.Made.TheVariants.{Kept, Written, Anew}
+use Rattle.json_patch.specs.Writes.{put_writes, AreWrites, AreWritesFor}
+use Rattle.json_patch.specs.Led.{ActsThere}
 use Rattle.json_patch.specs.Touched.{weight, DifferWithin}
-use Rattle.json_patch.specs.Draft.{edit_by, act_by, in_place, StandAt, IsDraft, IsPut, putting}
-use Rattle.json_patch.proofs.SingleLemmas as single
-use Rattle.json_patch.proofs.SingleLemmas.{step_same, step_other, same_put, put_deep, few_entered, none_some, Place}
+use Rattle.json_patch.specs.Made.{edit_by, act_by, in_place, StandFor, Makes, Puts, putting}
+use Rattle.json_patch.specs.Draft.{IsDraft, IsPairPut}
+use Rattle.json_patch.proofs.PlanLemmas.{stands_on, writes_length, LeadsBack, LeadsOn}
+use Rattle.json_patch.proofs.OutLemmas.{set_heavier}
+use Rattle.json_patch.proofs.SingleLemmas.{value_at, step_same, step_other, same_put, put_deep, few_entered, none_some, place_found}
 use Rattle.json_patch.proofs.WithinLemmas.{within_put}
 
 -- ---- one pair's edit, adding or not
-
-neither : (a b : Bool) → (a || b) ≡ false → (a ≡ false) × (b ≡ false)
-neither true b e = absurd (true≢false e)
-neither false b e = (refl, e)
 
 put_positions : (adding : Bool) (path : Path) (v u : Tree) (ks : List ℕ) → IsTree u → positions path u ≡ Some ks → (act_by adding path v u ≡ put_at ks v u) × Reaches ks u
 put_positions true path v u ks is e = set_positions path v u ks is e
@@ -43,90 +43,50 @@ sets_tree : (adding : Bool) (path : Path) (v : Tree) → IsTree v → SetsTrees 
 sets_tree true path v is = (is, tt)
 sets_tree false path v is = (is, tt)
 
-module _ (adding : Bool) (path : Path) (v u : Tree) (bytes : List ℕ) where
-  same_progress : same_tree u (act_by adding path v u) ≡ true → replaced_by (act_by adding) path v (in_place bytes u) ≡ in_place bytes u
-  same_progress h = step_same (putting path v u) (act_by adding path v u) (in_place bytes u) h
+-- ---- what a pair makes of bytes that stand for a tree
 
-  other_progress : same_tree u (act_by adding path v u) ≡ false → replaced_by (act_by adding) path v (in_place bytes u) ≡ record { «tree» = act_by adding path v u; edited = putting path v u bytes }
-  other_progress h = step_other (putting path v u) (act_by adding path v u) (in_place bytes u) h
+-- what acts where the path leads
+put_there : (bytes : List ℕ) (path : Path) (v u : Tree) (ks : List ℕ) → positions path u ≡ Some ks → putting path v u bytes ≡ at_holder bytes (with_value bytes (spelling v)) (layout.root bytes) ks
+put_there bytes path v u ks at = ap (option_and_then (at_holder bytes (with_value bytes (spelling v)) (layout.root bytes))) at
 
-  -- bytes with the value in place stand for the tree with it
-  stands_put : (new : List ℕ) → IsTree v → StandAt bytes u → same_tree u (act_by adding path v u) ≡ false → putting path v u bytes ≡ Some new → StandAt new (act_by adding path v u)
-  stands_put new is h apart made =
-      stands_on (edit_by adding ((path, v) ∷ [])) bytes new u (act_by adding path v u) (sets_tree adding path v is) h
-      (one_pair adding path v (in_place bytes u) ∙ other_progress apart ∙ ap (λ o. record { «tree» = act_by adding path v u; edited = o }) made)
+module _ (bytes : List ℕ) (adding : Bool) (path : Path) (v u : Tree) (h : StandFor bytes u) where
+  -- the path finds the root
+  same_root : positions path u ≡ Some [] → same_tree u (act_by adding path v u) ≡ same_tree u v
+  same_root at = ap (same_tree u) (put_positions adding path v u [] h.is at).0
 
--- ---- what a pair makes of a draft
+  pub root_kept : positions path u ≡ Some [] → same_tree u v ≡ true → Makes bytes u adding path v Kept
+  root_kept at same = same_root at ∙ same
 
-module _ (adding : Bool) (path : Path) (v t u : Tree) (d : Draft) (h : IsDraft t d u) where
-  kept : same_tree u (act_by adding path v u) ≡ true → IsPut t (replaced_by (act_by adding) path v (in_place d.bytes.items u)) (Some d)
-  kept same = subst (λ p. IsPut t p (Some d)) (sym (same_progress adding path v u d.bytes.items same)) (refl, h)
+  pub root_anew : positions path u ≡ Some [] → same_tree u v ≡ false → Makes bytes u adding path v Anew
+  root_anew at apart = (same_root at ∙ apart, put_there bytes path v u [] at)
 
-  marked : same_tree u (act_by adding path v u) ≡ false → putting path v u d.bytes.items ≡ None → IsPut t (replaced_by (act_by adding) path v (in_place d.bytes.items u)) None
-  marked apart out = ap (λ p. p.edited) (other_progress adding path v u d.bytes.items apart) ∙ out
+  -- it finds a container's value
+  module _ (ks : List ℕ) (p : Place) (at : positions path u ≡ Some ks) (a : ActsThere bytes ks p) where
+    same_there : same_tree u (act_by adding path v u) ≡ same_tree (value_at ks u) v
+    same_there = let put = put_positions adding path v u ks h.is at in ap (same_tree u) put.0 ∙ same_put ks v u put.1
 
-  -- where the path finds nothing
-  pub nothing_kept : act_by adding path v u ≡ u → IsPut t (replaced_by (act_by adding) path v (in_place d.bytes.items u)) (Some d)
-  nothing_kept e = kept (ap (same_tree u) e ∙ tree_itself u)
+    -- which stands at its spot
+    pub value_there : IsValue bytes (value_at ks u) (layout.child bytes (container_of p.container) p.number)
+    value_there = (place_found bytes u path ks p h.is h.value at a).there
 
-  -- where it finds the root
-  at_root : positions path u ≡ Some [] → same_tree u (act_by adding path v u) ≡ same_tree u v
-  at_root e = ap (same_tree u) (put_positions adding path v u [] h.stands.is e).0
+    made_there : (o : Option (List ℕ)) → with_value bytes (spelling v) (container_of p.container) p.number ≡ o → putting path v u bytes ≡ o
+    made_there o made = put_there bytes path v u ks at ∙ a.acts (with_value bytes (spelling v)) ∙ made
 
-  pub root_kept : positions path u ≡ Some [] → same_tree u v ≡ true → IsPut t (replaced_by (act_by adding) path v (in_place d.bytes.items u)) (Some d)
-  root_kept e same = kept (at_root e ∙ same)
+    pub value_kept : same_tree (value_at ks u) v ≡ true → Makes bytes u adding path v Kept
+    value_kept same = same_there ∙ same
 
-  pub root_marked : positions path u ≡ Some [] → same_tree u v ≡ false → IsPut t (replaced_by (act_by adding) path v (in_place d.bytes.items u)) None
-  root_marked e apart = marked (at_root e ∙ apart) (ap (option_and_then (at_holder d.bytes.items (with_value d.bytes.items (spelling v)) (layout.root d.bytes.items))) e)
+    pub value_anew : same_tree (value_at ks u) v ≡ false → with_value bytes (spelling v) (container_of p.container) p.number ≡ None → Makes bytes u adding path v Anew
+    value_anew apart none = (same_there ∙ apart, made_there None none)
 
-  -- where it finds a container's value
-  module _ (c : Container) (k : ℕ) (p : Place d.bytes.items u path c k) where
-    inside_same : same_tree u (act_by adding path v u) ≡ same_tree (single.value_at (p.first ∷ p.others) u) v
-    inside_same =
-        let put = put_positions adding path v u (p.first ∷ p.others) h.stands.is p.at in
-        ap (same_tree u) put.0 ∙ same_put (p.first ∷ p.others) v u put.1
+    pub value_put : (ws : List Write) → same_tree (value_at ks u) v ≡ false → IsTree v → AreWrites bytes (with_value bytes (spelling v) (container_of p.container) p.number) ws → Puts bytes u adding path v ks ws
+    value_put ws apart is w = record {
+      other = same_there ∙ apart;
+      is = is;
+      at = at;
+      writes = record { made = made_there (Some (put_writes ws bytes)) w.made; inside = w.inside; rising = w.rising };
+    }
 
-    made_there : (o : Option (List ℕ)) → with_value d.bytes.items (spelling v) (container_of c) k ≡ o → putting path v u d.bytes.items ≡ o
-    made_there o made = ap (option_and_then (at_holder d.bytes.items (with_value d.bytes.items (spelling v)) (layout.root d.bytes.items))) p.at ∙ p.acts (with_value d.bytes.items (spelling v)) ∙ made
-
-    pub inside_kept : same_tree (single.value_at (p.first ∷ p.others) u) v ≡ true → IsPut t (replaced_by (act_by adding) path v (in_place d.bytes.items u)) (Some d)
-    inside_kept same = kept (inside_same ∙ same)
-
-    pub inside_marked : same_tree (single.value_at (p.first ∷ p.others) u) v ≡ false → with_value d.bytes.items (spelling v) (container_of c) k ≡ None → IsPut t (replaced_by (act_by adding) path v (in_place d.bytes.items u)) None
-    inside_marked apart none = marked (inside_same ∙ apart) (made_there None none)
-
-    pub inside_put : (e : Draft) (deep : Bool) → IsTree v → same_tree (single.value_at (p.first ∷ p.others) u) v ≡ false → with_value d.bytes.items (spelling v) (container_of c) k ≡ Some e.bytes.items
-        → map (λ ks. ks.items) e.touched.items ≡ map (λ ks. ks.items) d.touched.items ++ (p.first ∷ p.others) ∷ [] → e.deep ≡ (d.deep || deep) → (deep ≡ false → length path + depth v ≤ 100)
-        → IsPut t (replaced_by (act_by adding) path v (in_place d.bytes.items u)) (Some e)
-    inside_put e deep is apart made touched sank shallow =
-        let ks = p.first ∷ p.others in
-        let put = put_positions adding path v u ks h.stands.is p.at in
-        let other = inside_same ∙ apart in
-        let made_so = made_there (Some e.bytes.items) made in
-        let few : length ks ≤ length path = few_entered path u ks p.at in
-        subst (λ q. IsPut t q (Some e)) (sym (other_progress adding path v u d.bytes.items other)) (
-          made_so,
-          record {
-            stands = stands_put adding path v u d.bytes.items e.bytes.items is h.stands other made_so;
-            within = subst (λ places. DifferWithin places t (act_by adding path v u)) (sym touched) (subst (DifferWithin (map (λ ks. ks.items) d.touched.items ++ ks ∷ []) t) (sym put.0) (within_put (map (λ ks. ks.items) d.touched.items) ks v t u put.1 h.within));
-            nested = λ up. let both = neither d.deep deep (sym sank ∙ up) in let low = shallow both.1 in
-                subst (λ w. depth w ≤ 100) (sym put.0) (put_deep ks v u 100 put.1 (h.nested both.0) (omega (arith, few, low)));
-          },
-        )
-
--- ---- where a path leads
-
-pub led_nowhere : (bytes : List ℕ) (s : layout.Spot) (o : Option (List ℕ)) → IsLed bytes s Root o None → o ≡ None
-led_nowhere bytes s None e = refl
-led_nowhere bytes s (Some []) e = absurd (none_some Root e)
-led_nowhere bytes s (Some (k ∷ ks)) e = absurd e
-
-pub led_root : (bytes : List ℕ) (s : layout.Spot) (o : Option (List ℕ)) → IsLed bytes s Root o (Some Root) → o ≡ Some []
-led_root bytes s None e = absurd (none_some Root (sym e))
-led_root bytes s (Some []) e = refl
-led_root bytes s (Some (k ∷ ks)) e = absurd e
-
--- ---- a path that finds nothing
+-- ---- where the path finds nothing
 
 none_mapped : {X Y : Type 0} (f : X → Y) (o : Option X) → option_map f o ≡ None → o ≡ None
 none_mapped f None e = refl
@@ -156,18 +116,99 @@ heavier_apart t u low = go (same_tree t u) refl
     go true e = let same = ap weight (tree_equal t u e) in absurd (omega (arith, low, same))
     go false e = e
 
-module _ (path : Path) (v t u : Tree) (d : Draft) (h : IsDraft t d u) (nowhere : positions path u ≡ None) where
-  pub added_marked : Adds path u true → IsPut t (replaced_by set path v (in_place d.bytes.items u)) None
-  added_marked adds =
-      let heavy = adds v in
-      let made : set path v u ≡ heavy.0 = ap (λ o. unwrap_or o u) heavy.1 in
-      marked true path v t u d h (ap (same_tree u) made ∙ heavier_apart u heavy.0 heavy.2) (ap (option_and_then (at_holder d.bytes.items (with_value d.bytes.items (spelling v)) (layout.root d.bytes.items))) nowhere)
+-- the tree with a value added is another one
+added_apart : (path : Path) (v u : Tree) (o : Option Tree) → IsTree u → positions path u ≡ None → try_set path v u ≡ o → is_some o ≡ true → same_tree u (set path v u) ≡ false
+added_apart path v u None is nowhere made some = absurd (true≢false (sym some))
+added_apart path v u (Some w) is nowhere made some = ap (λ o. same_tree u (unwrap_or o u)) made ∙ heavier_apart u w (set_heavier path v u w is nowhere made)
 
-  pub nothing_added : Adds path u false → IsPut t (replaced_by set path v (in_place d.bytes.items u)) (Some d)
-  nothing_added adds = nothing_kept true path v t u d h (ap (λ o. unwrap_or o u) (adds v))
+none_is : (o : Option Tree) → is_some o ≡ false → o ≡ None
+none_is None e = refl
+none_is (Some w) e = absurd (true≢false e)
 
-  pub nothing_replaced : IsPut t (replaced_by replace path v (in_place d.bytes.items u)) (Some d)
-  nothing_replaced = nothing_kept false path v t u d h (replace_nowhere path v u nowhere)
+module _ (bytes : List ℕ) (path : Path) (v u : Tree) (adds : Bool) (h : StandFor bytes u) (nowhere : positions path u ≡ None) (at : (w : Tree) → is_some (try_set path w u) ≡ adds) where
+  pub added_anew : adds ≡ true → Makes bytes u true path v Anew
+  added_anew so = (added_apart path v u (try_set path v u) h.is nowhere refl (at v ∙ so), ap (option_and_then (at_holder bytes (with_value bytes (spelling v)) (layout.root bytes))) nowhere)
+
+  pub nothing_added : adds ≡ false → Makes bytes u true path v Kept
+  nothing_added so = ap (λ o. same_tree u (unwrap_or o u)) (none_is (try_set path v u) (at v ∙ so)) ∙ tree_itself u
+
+pub nothing_replaced : (bytes : List ℕ) (path : Path) (v u : Tree) → positions path u ≡ None → Makes bytes u false path v Kept
+nothing_replaced bytes path v u nowhere = ap (same_tree u) (replace_nowhere path v u nowhere) ∙ tree_itself u
+
+-- ---- what it makes of a draft
+
+neither : (a b : Bool) → (a || b) ≡ false → (a ≡ false) × (b ≡ false)
+neither true b e = absurd (true≢false e)
+neither false b e = (refl, e)
+
+-- the definition's progress by one pair
+pub kept_progress : (bytes : List ℕ) (adding : Bool) (path : Path) (v u : Tree) → same_tree u (act_by adding path v u) ≡ true → replaced_by (act_by adding) path v (in_place bytes u) ≡ in_place bytes u
+kept_progress bytes adding path v u h = step_same (putting path v u) (act_by adding path v u) (in_place bytes u) h
+
+pub other_progress : (bytes : List ℕ) (adding : Bool) (path : Path) (v u : Tree) (o : Option (List ℕ)) → same_tree u (act_by adding path v u) ≡ false → putting path v u bytes ≡ o
+    → replaced_by (act_by adding) path v (in_place bytes u) ≡ record { «tree» = act_by adding path v u; edited = o }
+other_progress bytes adding path v u o h made = step_other (putting path v u) (act_by adding path v u) (in_place bytes u) h ∙ ap (λ o. record { «tree» = act_by adding path v u; edited = o }) made
+
+-- bytes with the value in place stand for the tree with it
+pub put_stands : (bytes new : List ℕ) (adding : Bool) (path : Path) (v u : Tree) → IsTree v → StandFor bytes u → replaced_by (act_by adding) path v (in_place bytes u) ≡ in_place new (act_by adding path v u) → StandFor new (act_by adding path v u)
+put_stands bytes new adding path v u is h e =
+    stands_on (edit_by adding ((path, v) ∷ [])) bytes new u (act_by adding path v u) (sets_tree adding path v is) h (one_pair adding path v (in_place bytes u) ∙ e)
+
+-- and it is no deeper than it may be
+pub put_shallow : (adding : Bool) (path : Path) (v u : Tree) (ks : List ℕ) → IsTree u → positions path u ≡ Some ks → depth u ≤ 100 → length path + depth v ≤ 100 → depth (act_by adding path v u) ≤ 100
+put_shallow adding path v u ks is at low shallow =
+    let put = put_positions adding path v u ks is at in
+    let few : length ks ≤ length path = few_entered path u ks at in
+    subst (λ w. depth w ≤ 100) (sym put.0) (put_deep ks v u 100 put.1 low (omega (arith, few, shallow)))
+
+-- ---- the plan of one pair
+
+module _ (bytes : List ℕ) (adding : Bool) (path : Path) (v t : Tree) where
+  pub pair_back : Makes bytes t adding path v Kept → LeadsBack bytes (edit_by adding ((path, v) ∷ [])) t
+  pair_back same = (bytes, t, one_pair adding path v (in_place bytes t) ∙ kept_progress bytes adding path v t same, tree_itself t)
+
+  pub pair_off : Makes bytes t adding path v Anew → (progress (edit_by adding ((path, v) ∷ [])) (in_place bytes t)).edited ≡ None
+  pair_off m = ap (λ p. p.edited) (one_pair adding path v (in_place bytes t) ∙ other_progress bytes adding path v t None m.0 m.1)
+
+  pub pair_on : (ks : List ℕ) (ws : List Write) (parts : Changed) → Stands bytes t → StandFor bytes t → Puts bytes t adding path v ks ws → length path + depth v ≤ 100 → runs_of parts ≡ runs bytes (put_writes ws bytes)
+      → LeadsOn bytes (edit_by adding ((path, v) ∷ [])) t parts
+  pair_on ks ws parts s h m low parts_are =
+      let made = other_progress bytes adding path v t (Some (put_writes ws bytes)) m.other m.writes.made in
+      record {
+        new = put_writes ws bytes;
+        other = act_by adding path v t;
+        leads = one_pair adding path v (in_place bytes t) ∙ made;
+        apart = m.other;
+        shallow = put_shallow adding path v t ks h.is m.at s.nested low;
+        stands = put_stands bytes (put_writes ws bytes) adding path v t m.is h made;
+        long = writes_length ws bytes m.writes.inside;
+        parts_are = parts_are;
+      }
+
+-- ---- a draft
+
+module _ (adding : Bool) (path : Path) (v t u : Tree) (d : Draft) (h : IsDraft t d u) where
+  pub put_kept : Makes d.bytes.items u adding path v Kept → IsPairPut t (replaced_by (act_by adding) path v (in_place d.bytes.items u)) (Some d)
+  put_kept same = subst (λ p. IsPairPut t p (Some d)) (sym (kept_progress d.bytes.items adding path v u same)) (refl, h)
+
+  pub put_anew : Makes d.bytes.items u adding path v Anew → IsPairPut t (replaced_by (act_by adding) path v (in_place d.bytes.items u)) None
+  put_anew m = ap (λ p. p.edited) (other_progress d.bytes.items adding path v u None m.0 m.1)
+
+  pub put_written : (e : Draft) (deep : Bool) (ks : List ℕ) (ws : List Write) → Puts d.bytes.items u adding path v ks ws → e.bytes.items ≡ put_writes ws d.bytes.items
+      → map (λ ks. ks.items) e.touched.items ≡ map (λ ks. ks.items) d.touched.items ++ ks ∷ [] → e.deep ≡ (d.deep || deep) → (deep ≡ false → length path + depth v ≤ 100)
+      → IsPairPut t (replaced_by (act_by adding) path v (in_place d.bytes.items u)) (Some e)
+  put_written e deep ks ws m new touched sank shallow =
+      let put = put_positions adding path v u ks h.stands.is m.at in
+      let made = other_progress d.bytes.items adding path v u (Some e.bytes.items) m.other (m.writes.made ∙ ap Some (sym new)) in
+      subst (λ q. IsPairPut t q (Some e)) (sym made) (
+        refl,
+        record {
+          stands = put_stands d.bytes.items e.bytes.items adding path v u m.is h.stands made;
+          within = subst (λ places. DifferWithin places t (act_by adding path v u)) (sym touched)
+              (subst (DifferWithin (map (λ ks. ks.items) d.touched.items ++ ks ∷ []) t) (sym put.0) (within_put (map (λ ks. ks.items) d.touched.items) ks v t u put.1 h.within));
+          nested = λ up. let both = neither d.deep deep (sym sank ∙ up) in put_shallow adding path v u ks h.stands.is m.at (h.nested both.0) (shallow both.1);
+        },
+      )
 
 -- ---- all pairs
 
@@ -187,31 +228,6 @@ marked_stays true [] p e = e
 marked_stays true (a ∷ rest) p e = marked_stays true rest (replaced_by set a.0 a.1 p) (step_marked (putting a.0 a.1 p.«tree») (set a.0 a.1 p.«tree») p e)
 marked_stays false [] p e = e
 marked_stays false (a ∷ rest) p e = marked_stays false rest (replaced_by replace a.0 a.1 p) (step_marked (putting a.0 a.1 p.«tree») (replace a.0 a.1 p.«tree») p e)
-
--- ---- in equal bytes
-
--- the place that a path leads to
-pub held : (items b1 b2 : List ℕ) (t : Tree) (path ls : Path) (s : layout.Spot) (p q : Option PlaceOf) → StandAt items t → b1 ≡ items → b2 ≡ items → ls ≡ path → p ≡ q → s ≡ layout.root b1
-    → ((v : Tree) → IsTree v → IsValue b2 v s → IsLed b2 s Root (positions ls v) p) → IsLed items (layout.root items) Root (positions path t) q
-held items b1 b2 t path ls s p q stand e1 e2 el ep es f =
-    let here : s ≡ layout.root items = es ∙ ap layout.root e1 in
-    let value : IsValue b2 t s = subst (λ b. IsValue b t s) (sym e2) (subst (IsValue items t) (sym here) stand.value) in
-    subst (IsLed items (layout.root items) Root (positions path t)) ep
-    (subst (λ l. IsLed items (layout.root items) Root (positions l t) p) el
-    (subst (λ s. IsLed items s Root (positions ls t) p) here
-    (subst (λ b. IsLed b s Root (positions ls t) p) e2 (f t stand.is value))))
-
--- a container's value
-pub there_at : (items b1 b2 : List ℕ) (c : layout.Container) (k : ℕ) (v : Tree) (s : layout.Spot) → b1 ≡ items → b2 ≡ items → s ≡ layout.child b1 c k → IsValue items v (layout.child items c k) → IsValue b2 v s
-there_at items b1 b2 c k v s e1 e2 es h = subst (λ b. IsValue b v s) (sym e2) (subst (IsValue items v) (sym (es ∙ ap (λ b. layout.child b c k) e1)) h)
-
-pub entered_place : {V : Type 0} (items : V → List ℕ) (found : Option V) (place : V) (base : List ℕ) (o : Option (List ℕ)) (ks : List ℕ) → found ≡ Some place → base ≡ [] → o ≡ Some ks
-    → option_map items found ≡ option_map (λ js. base ++ js) o → items place ≡ ks
-entered_place items found place base o ks e z f h = some_is (sym (ap (option_map items) e) ∙ h ∙ ap (option_map (λ js. base ++ js)) f ∙ ap (λ b. Some (b ++ ks)) z)
-
--- the document's own value
-pub root_at : (items b1 b2 : List ℕ) (t : Tree) (s : layout.Spot) → b1 ≡ items → b2 ≡ items → s ≡ layout.root b1 → IsValue items t (layout.root items) → IsValue b2 t s
-root_at items b1 b2 t s e1 e2 es h = subst (λ b. IsValue b t s) (sym e2) (subst (IsValue items t) (sym (es ∙ ap layout.root e1)) h)
 
 -- ---- from pair to pair
 

@@ -4,6 +4,8 @@ pub mod WriteLemmas
 pub mod PlaceLemmas
 pub mod WeightLemmas
 pub mod TrailLemmas
+pub mod OutLemmas
+pub mod LeadLemmas
 pub mod PlanLemmas
 pub mod TouchLemmas
 pub mod SpanLemmas
@@ -12,4 +14,3 @@ pub mod SingleLemmas
 pub mod WithinLemmas
 pub mod DraftLemmas
 pub mod RestoredLemmas
-pub mod RemovalsLemmas

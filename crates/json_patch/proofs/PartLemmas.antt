@@ -2,8 +2,8 @@
 use Rattle.std.proofs.Common.{◌≡◌, ◌≤◌, ℕ, List, length, map, drop, sym, ap, ◌∙◌}
 use Rattle.std.proofs.lemmas.List.{drop_all}
 use Rattle.binary_model.specs.Change.{Run, runs, put_all, put_back}
-use Rattle.binary_model.proofs.RunLemmas.{runs_applied}
-use Rattle.binary_model.proofs.MaximalLemmas.{runs_put_back}
+use Rattle.binary_model.proofs.runs.RunLemmas.{runs_applied}
+use Rattle.binary_model.proofs.runs.MaximalLemmas.{runs_put_back}
 use Rattle.json_patch.specs.declared.parts.Patch.{Patch}
 use Rattle.json_patch.specs.View.{run_of}
 

@@ -1,31 +1,29 @@
--- What a leg enters in place, and where legs lead.
+-- What a leg enters in place.
 use Rattle.std.proofs.Common.{◌≡◌, ◌≤◌, ◌<◌, ℕ, zero, suc, ◌+◌, ◌-◌, ℤ, ◌==◌, ◌&&◌, Bool, true, false, List, [], ◌∷◌, ◌++◌, length, map, get_or, slice_get, bytes_eq, Option, Some, None, unwrap_or, option_map, option_and_then, Less, Equal, refl, sym, ap, subst, ◌∙◌, arith, cond, nat_lt, IsSomeAnd, ◌⊎◌, inl, inr}
 use Rattle.std.proofs.lemmas.Bool.{ltb-true, ltb-false}
 use Rattle.std.proofs.lemmas.Option.{slice_get_past, slice_get-get_or}
 use Rattle.std.proofs.lemmas.Slice.Eq.{bytes_eq-Decides}
 use Rattle.tree_model.specs.Tree.{Tree, null, boolean, number, text, array, object, Trees, no_trees, tree, tree_list, Members, no_members, member, member_list, get, key_cmp, AreMembers, IsTree}
-use Rattle.tree_model.specs.Path.{Leg, key, cell, last, Path, from_end, itself_at, child as tree_child}
+use Rattle.tree_model.specs.Path.{Leg, key, cell, last, from_end, itself_at, child as tree_child}
 use Rattle.tree_model.proofs.KeyLemmas.{itself, other_bytes, same_bytes}
 use Rattle.tree_model.proofs.KeyOrder.{Above, Rising, rising_from}
 use Rattle.binary_model.specs.Layout as layout
 use Rattle.binary_model.specs.Layout.{Kind, signed, unsigned, kind_at, container_as, container_at, count, end, entries_end, key_of, key_end, keys_end, values_floor, child}
 use Rattle.binary_model.specs.Stands.{IsNumberAs, AreKeys, IsValue, AreElements}
-use Rattle.binary_model.specs.Change.{member_position, position_of, positions, at_holder}
-use Rattle.binary_model.proofs.AgreeLemmas.{some_is}
-use Rattle.binary_model.proofs.StandLemmas.{values, values_stand, values_length, keys_length}
-use Rattle.binary_model.proofs.AgainLemmas.{HasElements, HasMembers, keys_low}
-use Rattle.binary_model.proofs.RefitLemmas.{nth}
-use Rattle.binary_model.proofs.PositionLemmas.{Itself as ItselfAt, Enters, Step, leg_step, step_is}
+use Rattle.binary_model.specs.Change.{member_position, position_of}
+use Rattle.binary_model.proofs.in_place.AgreeLemmas.{some_is}
+use Rattle.binary_model.proofs.reading.StandLemmas.{values, values_stand, values_length, keys_length}
+use Rattle.binary_model.proofs.in_place.AgainLemmas.{HasElements, HasMembers, keys_low}
+use Rattle.binary_model.proofs.in_place.RefitLemmas.{nth}
+use Rattle.binary_model.proofs.in_place.PositionLemmas.{Itself as ItselfAt, Enters, Step, leg_step, step_is}
 use Rattle.json_edit.specs.Places as places
 use Rattle.json_edit.specs.Places.{place_in}
-use Rattle.json_binary.specs.declared.place.Spot.{Spot}
-use Rattle.json_binary.specs.declared.place.Container.{Container}
-use Rattle.json_binary.specs.Place.{container_of, spot_of, IsFramed, IsInside}
-use Rattle.json_patch.specs.declared.place.Place.{Place}
-use Rattle.json_patch.specs.declared.place.Place.TheVariants.{Root, Inside}
-use Rattle.json_patch.specs.declared.place.Entered.TheVariants.{Nothing, Itself, Value}
+use Rattle.json_binary.specs.declared.cursor.place.Spot.{Spot}
+use Rattle.json_binary.specs.declared.cursor.place.Container.{Container}
+use Rattle.json_binary.specs.Place.{container_of, spot_of, IsFramed}
+use Rattle.json_patch.specs.declared.lead.Entered.TheVariants.{Nothing, Itself}
 use Rattle.json_patch.specs.Stand.{Values}
-use Rattle.json_patch.specs.Led.{IsIn, IsEntered, IsNumber, IsMember, IsLedTo, IsLed}
+use Rattle.json_patch.specs.Led.{IsEntered, EntersValue, IsNumber, IsMember}
 use Rattle.json_patch.proofs.RoomLemmas.{kid_stands}
 
 -- ---- the container that a value is
@@ -34,7 +32,7 @@ some_at : (P : layout.Container → Type 0) (o : Option layout.Container) (d : l
 some_at P None d e p = absurd p
 some_at P (Some x) d e p = subst P (some_is e) p
 
-none_at : (P : layout.Container → Type 0) (o : Option layout.Container) → o ≡ None → IsSomeAnd o P → ⊥
+pub none_at : (P : layout.Container → Type 0) (o : Option layout.Container) → o ≡ None → IsSomeAnd o P → ⊥
 none_at P None e p = absurd p
 none_at P (Some x) e p = let no : ⊥ = cc in no
 
@@ -45,7 +43,7 @@ number_none bytes z s kind h = absurd h
 
 -- a list or an object
 abbrev pub Holder : List ℕ → layout.Spot → layout.Container → Tree → Type 0
-Holder bytes s d t = ((ts : Trees) × (t ≡ array ts) × HasElements bytes s.window ts d) ⊎ ((ms : Members) × (t ≡ object ms) × HasMembers bytes s.window ms d)
+Holder bytes s d t = ((ts : Trees) × (t ≡ array ts) × HasElements bytes s.limit ts d) ⊎ ((ms : Members) × (t ≡ object ms) × HasMembers bytes s.limit ms d)
 
 no_container : {X : Type 0} (o : Option layout.Container) (d : layout.Container) → o ≡ None → o ≡ Some d → X
 no_container o d n e = let no : ⊥ = cc in absurd no
@@ -53,19 +51,19 @@ no_container o d n e = let no : ⊥ = cc in absurd no
 pub holder : (bytes : List ℕ) (t : Tree) (s : layout.Spot) (d : layout.Container) → IsValue bytes t s → container_at bytes s ≡ Some d → Holder bytes s d t
 holder bytes null s d v e = no_container (container_at bytes s) d (ap (λ k. container_as k s.at) v.0) e
 holder bytes (boolean b) s d v e = no_container (container_at bytes s) d (ap (λ k. container_as k s.at) v.0) e
-holder bytes (number z) s d v e = no_container (container_at bytes s) d (number_none bytes z s (kind_at bytes s.tag) v) e
+holder bytes (number z) s d v e = no_container (container_at bytes s) d (number_none bytes z s (kind_at bytes s.type_at) v) e
 holder bytes (text x) s d v e = no_container (container_at bytes s) d (ap (λ k. container_as k s.at) v.0) e
-holder bytes (array ts) s d v e = inl (ts, refl, some_at (HasElements bytes s.window ts) (container_at bytes s) d e v)
-holder bytes (object ms) s d v e = inr (ms, refl, some_at (HasMembers bytes s.window ms) (container_at bytes s) d e v)
+holder bytes (array ts) s d v e = inl (ts, refl, some_at (HasElements bytes s.limit ts) (container_at bytes s) d e v)
+holder bytes (object ms) s d v e = inr (ms, refl, some_at (HasMembers bytes s.limit ms) (container_at bytes s) d e v)
 
-pub elements_values : (bytes : List ℕ) (window : ℕ) (ts : Trees) (d : layout.Container) → HasElements bytes window ts d → Values bytes d ts
-elements_values bytes window ts d h =
+pub elements_values : (bytes : List ℕ) (limit : ℕ) (ts : Trees) (d : layout.Container) → HasElements bytes limit ts d → Values bytes d ts
+elements_values bytes limit ts d h =
     let floor : values_floor bytes d ≡ entries_end bytes d = ap (λ b. cond b (keys_end bytes d (count bytes d)) (entries_end bytes d)) h.0 in
     let whole = h.1.2 in
     record { number = h.2; elements = subst (λ n. AreElements bytes d 0 n ts) (sym floor) h.3; floor = (omega (arith, floor), omega (arith, floor, whole)) }
 
-pub members_values : (bytes : List ℕ) (window : ℕ) (ms : Members) (d : layout.Container) → HasMembers bytes window ms d → Values bytes d (values ms)
-members_values bytes window ms d h =
+pub members_values : (bytes : List ℕ) (limit : ℕ) (ms : Members) (d : layout.Container) → HasMembers bytes limit ms d → Values bytes d (values ms)
+members_values bytes limit ms d h =
     let ks = map (λ m. m.0) (member_list ms) in
     let many = h.2 in
     let low = keys_low ks bytes d 0 h.3 h.1.2 in
@@ -98,8 +96,8 @@ scalar_stays bytes null s v e = (record { cells = λ n. (refl, refl); lasts = λ
 scalar_stays bytes (boolean b) s v e = (record { cells = λ n. (refl, refl); lasts = λ n. (refl, refl) }, λ k. refl)
 scalar_stays bytes (number z) s v e = (record { cells = λ n. (refl, refl); lasts = λ n. (refl, refl) }, λ k. refl)
 scalar_stays bytes (text x) s v e = (record { cells = λ n. (refl, refl); lasts = λ n. (refl, refl) }, λ k. refl)
-scalar_stays bytes (array ts) s v e = absurd (none_at (HasElements bytes s.window ts) (container_at bytes s) e v)
-scalar_stays bytes (object ms) s v e = absurd (none_at (HasMembers bytes s.window ms) (container_at bytes s) e v)
+scalar_stays bytes (array ts) s v e = absurd (none_at (HasElements bytes s.limit ts) (container_at bytes s) e v)
+scalar_stays bytes (object ms) s v e = absurd (none_at (HasMembers bytes s.limit ms) (container_at bytes s) e v)
 
 object_stays : (ms : Members) → Stays (object ms)
 object_stays ms = record { cells = λ n. (refl, refl); lasts = λ n. (refl, refl) }
@@ -192,60 +190,69 @@ member_is bytes d k (member l t ms) j floor (suc n) a up low e =
 
 -- ---- what a leg enters in a container
 
-in_list : (bytes : List ℕ) (s : layout.Spot) (c : Container) (ts : Trees) (l : Leg) (k : ℕ) (u : Spot) → container_at bytes s ≡ Some (container_of c) → IsFramed bytes c → HasElements bytes s.window ts (container_of c)
-    → place_in (count bytes (container_of c)) l ≡ Some k → spot_of u ≡ child bytes (container_of c) k → IsInside bytes u → IsEntered bytes s (array ts) l (Value c k u)
-in_list bytes s c ts l k u is framed h at place inside =
-    let vs = elements_values bytes s.window ts (container_of c) h in
+in_list : (bytes : List ℕ) (s : layout.Spot) (c : Container) (ts : Trees) (l : Leg) (k : ℕ) (u : Spot) → container_at bytes s ≡ Some (container_of c) → IsFramed bytes c → HasElements bytes s.limit ts (container_of c)
+    → place_in (count bytes (container_of c)) l ≡ Some k → spot_of u ≡ child bytes (container_of c) k → EntersValue bytes s (array ts) l c k u
+in_list bytes s c ts l k u is framed h at place =
+    let vs = elements_values bytes s.limit ts (container_of c) h in
     let many = h.2 in
     let n = numbered ts (count bytes (container_of c)) l k many at in
     let low = n.0 in
     let here : k < count bytes (container_of c) = omega (arith, low, many) in
-    (n.1, record { is = is; stands = (framed, (ts, vs)); low = here }, place, inside, (nth ts k, n.2, subst (IsValue bytes (nth ts k)) (sym place) (kid_stands bytes (container_of c) ts k vs here)))
+    record {
+      is = is;
+      kid = record { values = (framed, (ts, vs)); low = here; spot = place };
+      position = n.1;
+      value = nth ts k;
+      found = n.2;
+      stands = subst (IsValue bytes (nth ts k)) (sym place) (kid_stands bytes (container_of c) ts k vs here);
+    }
 
-in_object : (bytes : List ℕ) (s : layout.Spot) (c : Container) (ms : Members) (l : Leg) (k : ℕ) (u : Spot) → container_at bytes s ≡ Some (container_of c) → IsFramed bytes c → HasMembers bytes s.window ms (container_of c)
-    → AreMembers (member_list ms) → IsMember bytes (container_of c) l (Some k) → spot_of u ≡ child bytes (container_of c) k → IsInside bytes u → IsEntered bytes s (object ms) l (Value c k u)
-in_object bytes s c ms (key x) k u is framed h are m place inside =
-    let vs = members_values bytes s.window ms (container_of c) h in
+in_object : (bytes : List ℕ) (s : layout.Spot) (c : Container) (ms : Members) (l : Leg) (k : ℕ) (u : Spot) → container_at bytes s ≡ Some (container_of c) → IsFramed bytes c → HasMembers bytes s.limit ms (container_of c)
+    → AreMembers (member_list ms) → IsMember bytes (container_of c) l (Some k) → spot_of u ≡ child bytes (container_of c) k → EntersValue bytes s (object ms) l c k u
+in_object bytes s c ms (key x) k u is framed h are m place =
+    let vs = members_values bytes s.limit ms (container_of c) h in
     let many = h.2 in
     let low = m.0 in
     let z : k ≡ 0 + k = omega arith in
-    let found = member_is bytes (container_of c) x ms 0 (entries_end bytes (container_of c)) k h.3 (rising_from ms are) (omega (arith, low, many)) (ap (key_of bytes (container_of c)) (sym z) ∙ m.1) in (
-      ap (λ i. i ∷ []) found.0,
-      record { is = is; stands = (framed, (values ms, vs)); low = low },
-      place,
-      inside,
-      (nth (values ms) k, found.1, subst (IsValue bytes (nth (values ms) k)) (sym place) (kid_stands bytes (container_of c) (values ms) k vs low)),
-    )
-in_object bytes s c ms (cell n) k u is framed h are m place inside = let no : ⊥ = cc in absurd no
-in_object bytes s c ms (last n) k u is framed h are m place inside = let no : ⊥ = cc in absurd no
+    let found = member_is bytes (container_of c) x ms 0 (entries_end bytes (container_of c)) k h.3 (rising_from ms are) (omega (arith, low, many)) (ap (key_of bytes (container_of c)) (sym z) ∙ m.1) in
+    record {
+      is = is;
+      kid = record { values = (framed, (values ms, vs)); low = low; spot = place };
+      position = ap (λ i. i ∷ []) found.0;
+      value = nth (values ms) k;
+      found = found.1;
+      stands = subst (IsValue bytes (nth (values ms) k)) (sym place) (kid_stands bytes (container_of c) (values ms) k vs low);
+    }
+in_object bytes s c ms (cell n) k u is framed h are m place = let no : ⊥ = cc in absurd no
+in_object bytes s c ms (last n) k u is framed h are m place = let no : ⊥ = cc in absurd no
 
 keyed_clash : {X : Type 0} (b : Bool) → b ≡ true → b ≡ false → X
 keyed_clash b e f = let no : ⊥ = cc in absurd no
 
 pub entered_value : (bytes : List ℕ) (t : Tree) (s : layout.Spot) (c : Container) (l : Leg) (k : ℕ) (u : Spot) → IsTree t → IsValue bytes t s → container_at bytes s ≡ Some (container_of c) → IsFramed bytes c
-    → IsNumber bytes (container_of c) l (Some k) → spot_of u ≡ child bytes (container_of c) k → IsInside bytes u → IsEntered bytes s t l (Value c k u)
-entered_value bytes t s c l k u tree_is v is framed n place inside = go t (holder bytes t s (container_of c) v is) tree_is
+    → IsNumber bytes (container_of c) l (Some k) → spot_of u ≡ child bytes (container_of c) k → EntersValue bytes s t l c k u
+entered_value bytes t s c l k u tree_is v is framed n place = go t (holder bytes t s (container_of c) v is) tree_is
   where
-    go : (t : Tree) → Holder bytes s (container_of c) t → IsTree t → IsEntered bytes s t l (Value c k u)
-    go t (inl (ts, e, h)) tree_is = subst (λ t. IsEntered bytes s t l (Value c k u)) (sym e) (in_list bytes s c ts l k u is framed h (n.0 h.0) place inside)
-    go t (inr (ms, e, h)) tree_is = subst (λ t. IsEntered bytes s t l (Value c k u)) (sym e) (in_object bytes s c ms l k u is framed h (subst IsTree e tree_is).0 (n.1 h.0) place inside)
+    go : (t : Tree) → Holder bytes s (container_of c) t → IsTree t → EntersValue bytes s t l c k u
+    go t (inl (ts, e, h)) tree_is = subst (λ t. EntersValue bytes s t l c k u) (sym e) (in_list bytes s c ts l k u is framed h (n.element h.0) place)
+    go t (inr (ms, e, h)) tree_is = subst (λ t. EntersValue bytes s t l c k u) (sym e) (in_object bytes s c ms l k u is framed h (subst IsTree e tree_is).0 (n.member h.0) place)
 
-object_key : (bytes : List ℕ) (s : layout.Spot) (d : layout.Container) (ms : Members) (l : Leg) → HasMembers bytes s.window ms d → AreMembers (member_list ms) → IsMember bytes d l None → (k : List ℕ) → l ≡ key k → tree_child (object ms) l ≡ None
-object_key bytes s d ms (key x) h are m k e = m ms (entries_end bytes d) are h.3 (keys_length ms ∙ sym h.2)
+object_key : (bytes : List ℕ) (s : layout.Spot) (d : layout.Container) (ms : Members) (l : Leg) → HasMembers bytes s.limit ms d → AreMembers (member_list ms) → IsMember bytes d l None → (k : List ℕ) → l ≡ key k → tree_child (object ms) l ≡ None
+object_key bytes s d ms (key x) h are m k e = m ms (record { floor = entries_end bytes d; members = are; keys = h.3; number = keys_length ms ∙ sym h.2 })
 object_key bytes s d ms (cell n) h are m k e = let no : ⊥ = cc in absurd no
 object_key bytes s d ms (last n) h are m k e = let no : ⊥ = cc in absurd no
 
 pub entered_nothing : (bytes : List ℕ) (t : Tree) (s : layout.Spot) (c : Container) (l : Leg) → IsTree t → IsValue bytes t s → container_at bytes s ≡ Some (container_of c)
-    → IsNumber bytes (container_of c) l None → (c.keyed && places.is_itself l) ≡ false → IsEntered bytes s t l Nothing
+    → IsNumber bytes (container_of c) l None → (c.is_object && places.is_itself l) ≡ false → IsEntered bytes s t l Nothing
 entered_nothing bytes t s c l tree_is v is n out = go t (holder bytes t s (container_of c) v is) tree_is
   where
     go : (t : Tree) → Holder bytes s (container_of c) t → IsTree t → tree_child t l ≡ None
-    go t (inl (ts, e, h)) tree_is = ap (λ t. tree_child t l) e ∙ missing ts (count bytes (container_of c)) l h.2 (n.0 h.0)
+    go t (inl (ts, e, h)) tree_is = ap (λ t. tree_child t l) e ∙ missing ts (count bytes (container_of c)) l h.2 (n.element h.0)
     go t (inr (ms, e, h)) tree_is =
         let itself_out : places.is_itself l ≡ false = sym (ap (λ b. b && places.is_itself l) h.0) ∙ out in
-        ap (λ t. tree_child t l) e ∙ stays_nothing (object ms) l (object_stays ms) (object_key bytes s (container_of c) ms l h (subst IsTree e tree_is).0 (n.1 h.0)) itself_out
+        ap (λ t. tree_child t l) e ∙ stays_nothing (object ms) l (object_stays ms) (object_key bytes s (container_of c) ms l h (subst IsTree e tree_is).0 (n.member h.0)) itself_out
 
-pub entered_itself : (bytes : List ℕ) (t : Tree) (s : layout.Spot) (c : Container) (l : Leg) → IsValue bytes t s → container_at bytes s ≡ Some (container_of c) → (c.keyed && places.is_itself l) ≡ true → IsEntered bytes s t l Itself
+pub entered_itself : (bytes : List ℕ) (t : Tree) (s : layout.Spot) (c : Container) (l : Leg) → IsValue bytes t s → container_at bytes s ≡ Some (container_of c) → (c.is_object && places.is_itself l) ≡ true → IsEntered bytes s t l Itself
 entered_itself bytes t s c l v is at = go t (holder bytes t s (container_of c) v is)
   where
     both : (a b : Bool) → (a && b) ≡ true → (a ≡ true) × (b ≡ true)
@@ -253,8 +260,8 @@ entered_itself bytes t s c l v is at = go t (holder bytes t s (container_of c) v
     both false b e = let no : ⊥ = cc in absurd no
 
     go : (t : Tree) → Holder bytes s (container_of c) t → (tree_child t l ≡ Some t) × (position_of t l ≡ [])
-    go t (inl (ts, e, h)) = keyed_clash c.keyed (both c.keyed (places.is_itself l) at).0 h.0
-    go t (inr (ms, e, h)) = subst (λ t. (tree_child t l ≡ Some t) × (position_of t l ≡ [])) (sym e) (stays_itself (object ms) l (object_stays ms) (both c.keyed (places.is_itself l) at).1)
+    go t (inl (ts, e, h)) = keyed_clash c.is_object (both c.is_object (places.is_itself l) at).0 h.0
+    go t (inr (ms, e, h)) = subst (λ t. (tree_child t l ≡ Some t) × (position_of t l ≡ [])) (sym e) (stays_itself (object ms) l (object_stays ms) (both c.is_object (places.is_itself l) at).1)
 
 -- ---- the step of a leg
 
@@ -274,46 +281,10 @@ unfolding first_of
 enters_at t l v k (inl s) e = none_first k [] (sym s.0 ∙ e)
 enters_at t l v k (inr (j, s)) e = subst (Enters t l v) (ap first_of (sym s.position ∙ e)) s
 
--- ---- legs
-
-pub led_nothing : (bytes : List ℕ) (t : Tree) (s : layout.Spot) (l : Leg) (ls : Path) (place : Place) → IsEntered bytes s t l Nothing → IsLed bytes s place (positions (l ∷ ls) t) None
-led_nothing bytes t s l ls place e =
-    subst (λ o. IsLed bytes s place (option_and_then (λ v. option_map (λ ks. position_of t l ++ ks) (positions ls v)) o) None) (sym e) refl
-
-itself_led : (bytes : List ℕ) (s : layout.Spot) (place : Place) (o : Option (List ℕ)) (found : Option Place) → IsLed bytes s place o found → IsLed bytes s place (option_map (λ ks. [] ++ ks) o) found
-itself_led bytes s place None found h = h
-itself_led bytes s place (Some ks) found h = h
-
-pub led_itself : (bytes : List ℕ) (t : Tree) (s : layout.Spot) (l : Leg) (ls : Path) (place : Place) (found : Option Place) → IsEntered bytes s t l Itself → IsLed bytes s place (positions ls t) found → IsLed bytes s place (positions (l ∷ ls) t) found
-led_itself bytes t s l ls place found e h =
-    subst (λ o. IsLed bytes s place (option_and_then (λ v. option_map (λ ks. position_of t l ++ ks) (positions ls v)) o) found) (sym e.0)
-    (subst (λ js. IsLed bytes s place (option_map (λ ks. js ++ ks) (positions ls t)) found) (sym e.1) (itself_led bytes s place (positions ls t) found h))
-
-in_holder : (f : layout.Container → Option (List ℕ)) (o : Option layout.Container) (d : layout.Container) → o ≡ Some d → option_and_then f o ≡ f d
-in_holder f o d e = ap (option_and_then f) e
-
-value_led : (bytes : List ℕ) (s : layout.Spot) (c : Container) (k : ℕ) (u : Spot) (place : Place) (o : Option (List ℕ)) (found : Option Place) → IsIn bytes s c k → spot_of u ≡ child bytes (container_of c) k
-    → IsLed bytes (spot_of u) (Inside c k) o found → IsLed bytes s place (option_map (λ ks. (k ∷ []) ++ ks) o) found
-value_led bytes s c k u place None found i e h = h
-value_led bytes s c k u place (Some []) found i e h =
-    subst (IsLedTo bytes s place (k ∷ [])) (sym h) (i.stands, i.low, λ act. in_holder (λ d. act d k) (container_at bytes s) (container_of c) i.is)
-value_led bytes s c k u place (Some (j ∷ js)) None i e h = absurd h
-value_led bytes s c k u place (Some (j ∷ js)) (Some Root) i e h = absurd h
-value_led bytes s c k u place (Some (j ∷ js)) (Some (Inside d n)) i e h =
-    (h.0, h.1, λ act. in_holder (λ d. at_holder bytes act (child bytes d k) (j ∷ js)) (container_at bytes s) (container_of c) i.is ∙ ap (λ w. at_holder bytes act w (j ∷ js)) (sym e) ∙ h.2 act)
-
-pub led_value : (bytes : List ℕ) (t : Tree) (s : layout.Spot) (l : Leg) (ls : Path) (place : Place) (c : Container) (k : ℕ) (u : Spot) (found : Option Place) → IsEntered bytes s t l (Value c k u)
-    → ((v : Tree) → IsTree v → IsValue bytes v (spot_of u) → IsLed bytes (spot_of u) (Inside c k) (positions ls v) found) → IsTree t → IsLed bytes s place (positions (l ∷ ls) t) found
-led_value bytes t s l ls place c k u found e h is =
-    let (v, at, stands) = e.4 in
-    subst (λ o. IsLed bytes s place (option_and_then (λ v. option_map (λ ks. position_of t l ++ ks) (positions ls v)) o) found) (sym at)
-    (subst (λ js. IsLed bytes s place (option_map (λ ks. js ++ ks) (positions ls v)) found) (sym e.0)
-    (value_led bytes s c k u place (positions ls v) found e.1 e.2 (h v (step_is t l v is (leg_step t l v is at)) stands)))
-
 -- where a container stands, its k-th value does
 pub kid_there : (bytes : List ℕ) (t : Tree) (s : layout.Spot) (d : layout.Container) (k : ℕ) → IsValue bytes t s → container_at bytes s ≡ Some d → k < count bytes d → (v : Tree) × IsValue bytes v (child bytes d k)
 kid_there bytes t s d k v e low = go (holder bytes t s d v e)
   where
     go : Holder bytes s d t → (v : Tree) × IsValue bytes v (child bytes d k)
-    go (inl (ts, f, h)) = (nth ts k, kid_stands bytes d ts k (elements_values bytes s.window ts d h) low)
-    go (inr (ms, f, h)) = (nth (values ms) k, kid_stands bytes d (values ms) k (members_values bytes s.window ms d h) low)
+    go (inl (ts, f, h)) = (nth ts k, kid_stands bytes d ts k (elements_values bytes s.limit ts d h) low)
+    go (inr (ms, f, h)) = (nth (values ms) k, kid_stands bytes d (values ms) k (members_values bytes s.limit ms d h) low)

@@ -1,42 +1,31 @@
 -- A draft goes on as the definition's progress does, and ends as its change.
-use Rattle.std.proofs.Common.{◌≡◌, ◌≤◌, ℕ, suc, ◌+◌, Bool, true, false, List, [], ◌∷◌, ◌++◌, append-nil, length, take, drop, Option, Some, None, Result, Ok, Err, refl, sym, ap, subst, ◌∙◌, arith, cond}
+use Rattle.std.proofs.Common.{◌≡◌, ◌≤◌, ◌<◌, ℕ, suc, ◌+◌, Bool, true, false, List, [], ◌∷◌, ◌++◌, append-nil, length, take, drop, Option, Some, None, Result, Ok, Err, refl, sym, ap, subst, ◌∙◌, arith, cond}
 use Rattle.std.proofs.lemmas.List.{length-append, drop_all, take_all}
 use Rattle.tree_model.specs.Tree.{Tree, depth}
 use Rattle.tree_model.specs.Edit.{Edit, edited}
 use Rattle.tree_model.specs.Same.{same_tree}
+use Rattle.tree_model.proofs.SameLemmas.{tree_equal}
 use Rattle.binary_model.specs.Stands.{IsBytes, Stands}
 use Rattle.binary_model.specs.Place.{Holds}
 use Rattle.binary_model.specs.Canonical.{canonical, canonical_length}
 use Rattle.binary_model.specs.Change as change
-use Rattle.binary_model.specs.Change.{Progress, progress, positions, edited_at, written, at_holder, Run, runs, SetsTrees, put_all, stored_as, finished, AreApart, StandAt as Stood}
-use Rattle.binary_model.proofs.WrittenLemmas.{written_length}
-use Rattle.binary_model.proofs.MaximalLemmas.{runs_maximal}
-use Rattle.binary_model.proofs.EditLemmas.{Follows, progress_follows, edits_are}
-use Rattle.binary_model.proofs.ChangeLemmas.{same_edits}
+use Rattle.binary_model.specs.Change.{Progress, progress, written, Run, runs, SetsTrees, put_all, stored_as, finished, AreApart, StandAt as Stood}
+use Rattle.binary_model.proofs.in_place.WrittenLemmas.{written_length}
+use Rattle.binary_model.proofs.runs.RunLemmas.{runs_applied}
+use Rattle.binary_model.proofs.runs.MaximalLemmas.{runs_maximal}
+use Rattle.binary_model.proofs.in_place.EditLemmas.{Follows, progress_follows}
+use Rattle.binary_model.proofs.in_place.ChangeLemmas.{same_edits}
 use Rattle.json_patch.specs.declared.writes.Write.{Write}
-use Rattle.json_patch.specs.Writes.{put_writes, AreInside}
-use Rattle.json_patch.specs.Draft.{StandAt}
-use Rattle.json_patch.specs.View.{AreWithin}
-use Rattle.json_patch.specs.declared.planning.Planned.{Planned}
+use Rattle.json_patch.specs.declared.parts.Parts.{Parts as Changed}
 use Rattle.json_patch.specs.declared.planning.Planned.TheVariants as planned
-use Rattle.json_patch.specs.declared.error.PlanError.{PlanError}
-use Rattle.json_patch.specs.Answer.{IsAnswer, StaysInPlace}
-
--- the old bytes and those of the draft at the end are as many
-abbrev pub SameLength : List ℕ → Option (List ℕ) → Type 0
-SameLength bytes None = Unit {0}
-SameLength bytes (Some new) = length bytes ≡ length new
-
-length_of : (bytes : List ℕ) (o : Option (List ℕ)) (t : Tree) → Follows bytes o t → SameLength bytes o
-length_of bytes None t h = tt
-length_of bytes (Some new) t h = h.len
-
-pub length_stays : (bytes : List ℕ) (t : Tree) (edit : Edit) → IsBytes bytes → Stands bytes t → SetsTrees edit → SameLength bytes (progress edit (record { «tree» = t; edited = Some bytes })).edited
-length_stays bytes t edit octets s sets =
-    length_of bytes _ _ (progress_follows bytes edit (record { «tree» = t; edited = Some bytes }) sets (record { len = refl; octets = octets; is = s.«tree»; some = s.some; value = s.value; whole = s.whole }))
+use Rattle.json_patch.specs.declared.error.PlanError.TheVariants.{Deep, Memory}
+use Rattle.json_patch.specs.Writes.{put_writes, AreInside}
+use Rattle.json_patch.specs.Made.{StandFor, in_place}
+use Rattle.json_patch.specs.View.{runs_of, AreWithin}
+use Rattle.json_patch.specs.Answer.{IsAnswer, IsOther, MakeStanding, Plans}
 
 -- the bytes that an edit in place leaves stand for its tree
-pub stands_on : (edit : Edit) (bytes new : List ℕ) (t other : Tree) → SetsTrees edit → StandAt bytes t → progress edit (record { «tree» = t; edited = Some bytes }) ≡ record { «tree» = other; edited = Some new } → StandAt new other
+pub stands_on : (edit : Edit) (bytes new : List ℕ) (t other : Tree) → SetsTrees edit → StandFor bytes t → progress edit (record { «tree» = t; edited = Some bytes }) ≡ record { «tree» = other; edited = Some new } → StandFor new other
 stands_on edit bytes new t other sets h e =
     let follows = progress_follows bytes edit (record { «tree» = t; edited = Some bytes }) sets (record { len = refl; octets = h.octets; is = h.is; some = h.some; value = h.value; whole = h.whole }) in
     let s = subst (λ p. Follows bytes p.edited p.«tree») e follows in
@@ -78,43 +67,83 @@ runs_within old new e = let m = runs_maximal old new e in within_from (runs old 
 
 -- ---- the whole plan
 
-pub answer_from : (bytes : List ℕ) (t u : Tree) (edit : Edit) (q : Progress) (result : Result Planned PlanError) → t ≡ u → q ≡ progress edit (record { «tree» = t; edited = Some bytes })
-    → IsAnswer (finished bytes t q) (depth q.«tree») (canonical_length q.«tree») result → IsAnswer (change.change bytes u edit) (depth (edited edit u)) (canonical_length (edited edit u)) result
-answer_from bytes t u edit q result same e h =
-    let first : Progress = record { «tree» = t; edited = Some bytes } in
-    subst (λ v. IsAnswer (change.change bytes v edit) (depth (edited edit v)) (canonical_length (edited edit v)) result) same
-    (subst (λ v. IsAnswer (change.change bytes t edit) (depth v) (canonical_length v) result) (same_edits edit first)
-    (subst (λ q. IsAnswer (finished bytes t q) (depth q.«tree») (canonical_length q.«tree») result) e h))
+pub stands_for : (bytes : List ℕ) (t : Tree) → IsBytes bytes → length bytes ≤ 16777216 → Stands bytes t → StandFor bytes t
+stands_for bytes t octets small s = record { octets = octets; is = s.«tree»; some = s.some; value = s.value; whole = s.whole; small = small }
 
-parts_of : change.Change → List Run
-parts_of change.Same = []
-parts_of (change.Parts rs) = rs
-parts_of (change.Full new) = []
+-- what the edit leads to is the edited tree
+edited_is : (bytes new : List ℕ) (edit : Edit) (t u : Tree) → progress edit (in_place bytes t) ≡ in_place new u → edited edit t ≡ u
+edited_is bytes new edit t u e = sym (same_edits edit (in_place bytes t)) ∙ ap (λ p. p.«tree») e
 
-parts_same : (rs others : List Run) → change.Parts rs ≡ change.Parts others → rs ≡ others
-unfolding parts_of
-parts_same rs others e = ap parts_of e
+ends_same : (bytes new : List ℕ) (t u : Tree) → same_tree t u ≡ true → finished bytes t (in_place new u) ≡ change.Same
+ends_same bytes new t u e = rw e refl
 
-within_stored : (bytes : List ℕ) (rs : List Run) (t : Tree) (o : Option (List ℕ)) → elim o [ None ↦ change.Full (canonical t) | Some new ↦ change.Parts (runs bytes new) ] ≡ change.Parts rs → SameLength bytes o → AreWithin (length bytes) rs
-within_stored bytes rs t None e h = let no : ⊥ = cc in absurd no
-within_stored bytes rs t (Some new) e h = subst (AreWithin (length bytes)) (parts_same (runs bytes new) rs e) (runs_within bytes new h)
+ends_other : (bytes new : List ℕ) (t u : Tree) → same_tree t u ≡ false → finished bytes t (in_place new u) ≡ change.Parts (runs bytes new)
+ends_other bytes new t u e = rw e refl
 
-within_change : (bytes : List ℕ) (rs : List Run) (p : Progress) (b : Bool) → cond b change.Same (stored_as bytes p) ≡ change.Parts rs → SameLength bytes p.edited → AreWithin (length bytes) rs
-within_change bytes rs p true e h = let no : ⊥ = cc in absurd no
-within_change bytes rs p false e h = within_stored bytes rs p.«tree» p.edited e h
+deep_other : (bytes new : List ℕ) (t u : Tree) → Stands bytes t → 100 < depth u → IsOther (finished bytes t (in_place new u))
+deep_other bytes new t u s high = go (same_tree t u) refl
+  where
+    go : (b : Bool) → same_tree t u ≡ b → IsOther (cond b change.Same (stored_as bytes (in_place new u)))
+    go true e = let same = ap depth (tree_equal t u e) in let low = s.nested in absurd (omega (arith, low, same, high))
+    go false e = tt
 
-abbrev InPlaceFor : List ℕ → Tree → List Run → Type 0
-InPlaceFor bytes t rs = AreWithin (length bytes) rs × Stands (put_all rs bytes) t × (length (put_all rs bytes) ≡ length bytes)
+pub memory_plan : (bytes : List ℕ) (edit : Edit) → Plans bytes edit (Err Memory)
+memory_plan bytes edit = record { answer = λ t s. tt; stands = λ t s. tt; encoded = λ t s. tt }
 
-pub stays : (bytes : List ℕ) (t : Tree) (edit : Edit) (size : ℕ) (c : change.Change) (result : Result Planned PlanError) → change.change bytes t edit ≡ c → IsBytes bytes → Stands bytes t → SetsTrees edit
-    → IsAnswer c (depth (edited edit t)) size result → StaysInPlace bytes (edited edit t) result
-stays bytes t edit size c (Err e) is octets s sets h = tt
-stays bytes t edit size c (Ok planned.Same) is octets s sets h = tt
-stays bytes t edit size c (Ok (planned.Full out)) is octets s sets h = tt
-stays bytes t edit size change.Same (Ok (planned.Parts parts)) is octets s sets h = absurd h
-stays bytes t edit size (change.Full new) (Ok (planned.Parts parts)) is octets s sets h = absurd h
-stays bytes t edit size (change.Parts rs) (Ok (planned.Parts parts)) is octets s sets h =
-    let first : Progress = record { «tree» = t; edited = Some bytes } in
-    let law = edits_are bytes t edit rs octets s sets h.0 is in
-    subst (InPlaceFor bytes (edited edit t)) (sym h.1)
-    (within_change bytes rs (progress edit first) (same_tree t (progress edit first).«tree») is (length_stays bytes t edit octets s sets), law.0, law.1)
+-- the edit leads to an equal tree
+abbrev pub LeadsBack : List ℕ → Edit → Tree → Type 0
+LeadsBack bytes edit t = (new : List ℕ) × (u : Tree) × (progress edit (in_place bytes t) ≡ in_place new u) × (same_tree t u ≡ true)
+
+pub same_plan : (bytes : List ℕ) (edit : Edit) → ((t : Tree) → Stands bytes t → LeadsBack bytes edit t) → Plans bytes edit (Ok planned.Same)
+same_plan bytes edit h = record {
+  answer = λ t s.
+      let (new, u, leads, same) = h t s in
+      subst (λ c. IsAnswer c (depth (edited edit t)) (canonical_length (edited edit t)) (Ok planned.Same)) (sym (ap (finished bytes t) leads ∙ ends_same bytes new t u same)) tt;
+  stands = λ t s. tt;
+  encoded = λ t s. tt;
+}
+
+-- to one that is too deep
+abbrev pub LeadsDeep : List ℕ → Edit → Tree → Type 0
+LeadsDeep bytes edit t = (new : List ℕ) × (u : Tree) × (progress edit (in_place bytes t) ≡ in_place new u) × (100 < depth u)
+
+pub deep_plan : (bytes : List ℕ) (edit : Edit) → ((t : Tree) → Stands bytes t → LeadsDeep bytes edit t) → Plans bytes edit (Err Deep)
+deep_plan bytes edit h = record {
+  answer = λ t s.
+      let (new, u, leads, high) = h t s in
+      (subst IsOther (sym (ap (finished bytes t) leads)) (deep_other bytes new t u s high), subst (λ v. 100 < depth v) (sym (edited_is bytes new edit t u leads)) high);
+  stands = λ t s. tt;
+  encoded = λ t s. tt;
+}
+
+-- to another one, for which new bytes stand
+pub record LeadsOn (bytes : List ℕ) (edit : Edit) (t : Tree) (parts : Changed) : Type 0 where
+  pub new : List ℕ
+  pub other : Tree
+  pub leads : progress edit (in_place bytes t) ≡ in_place new other
+  pub apart : same_tree t other ≡ false
+  pub shallow : depth other ≤ 100
+  pub stands : StandFor new other
+  pub long : length new ≡ length bytes
+  pub parts_are : runs_of parts ≡ runs bytes new
+
+made_standing : (bytes : List ℕ) (edit : Edit) (t : Tree) (parts : Changed) → LeadsOn bytes edit t parts → MakeStanding bytes (edited edit t) (runs_of parts)
+made_standing bytes edit t parts h =
+    let made : put_all (runs bytes h.new) bytes ≡ h.new = runs_applied bytes h.new (sym h.long) in
+    let s = h.stands in
+    let stands : Stands h.new h.other = record { «tree» = s.is; nested = h.shallow; some = s.some; value = s.value; whole = s.whole } in
+    subst (MakeStanding bytes (edited edit t)) (sym h.parts_are) (
+      runs_within bytes h.new (sym h.long),
+      subst (λ b. Stands b (edited edit t)) (sym made) (subst (Stands h.new) (sym (edited_is bytes h.new edit t h.other h.leads)) stands),
+      ap length made ∙ h.long,
+    )
+
+pub parts_plan : (bytes : List ℕ) (edit : Edit) (parts : Changed) → ((t : Tree) → Stands bytes t → LeadsOn bytes edit t parts) → Plans bytes edit (Ok (planned.Parts parts))
+parts_plan bytes edit parts h = record {
+  answer = λ t s.
+      let to = h t s in
+      subst (λ c. IsAnswer c (depth (edited edit t)) (canonical_length (edited edit t)) (Ok (planned.Parts parts))) (sym (ap (finished bytes t) to.leads ∙ ends_other bytes to.new t to.other to.apart))
+      (subst (λ v. depth v ≤ 100) (sym (edited_is bytes to.new edit t to.other to.leads)) to.shallow, to.parts_are);
+  stands = λ t s. made_standing bytes edit t parts (h t s);
+  encoded = λ t s. tt;
+}

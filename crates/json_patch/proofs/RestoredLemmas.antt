@@ -8,18 +8,17 @@ use Rattle.binary_model.specs.Layout as layout
 use Rattle.binary_model.specs.Stands.{IsValue, Stands}
 use Rattle.tree_model.specs.Edit.{Edit, edited}
 use Rattle.binary_model.specs.Canonical.{canonical}
-use Rattle.binary_model.specs.Change.{progress, change, stored_as, finished, Same, Parts, Full, runs}
-use Rattle.binary_model.proofs.ChangeLemmas.{same_edits}
-use Rattle.binary_model.proofs.AgreeLemmas.{some_is}
+use Rattle.binary_model.specs.Change.{Progress, progress, change, finished, Same, Full}
+use Rattle.binary_model.proofs.in_place.ChangeLemmas.{same_edits}
+use Rattle.binary_model.proofs.in_place.AgreeLemmas.{some_is}
 use Rattle.json_binary.specs.Place.{spot_of}
-use Rattle.json_binary.specs.declared.place.Spot.{Spot}
-use Rattle.json_patch.specs.Led.{IsAt}
+use Rattle.json_binary.specs.declared.cursor.place.Spot.{Spot}
+use Rattle.json_patch.specs.Led.{StandsFor}
 use Rattle.json_patch.specs.Touched.{value_at, same_where, same_at}
-use Rattle.json_patch.specs.Draft.{IsDraft, in_place}
+use Rattle.json_patch.specs.Made.{in_place}
+use Rattle.json_patch.specs.Draft.{IsDraft}
 use Rattle.json_patch.specs.declared.draft.Draft.{Draft}
-use Rattle.json_patch.specs.Answer.{IsOther}
 use Rattle.json_patch.proofs.SingleLemmas.{by_equal, at_tree, at_shallow}
-use Rattle.json_patch.proofs.DraftLemmas.{root_at}
 use Rattle.json_patch.proofs.WithinLemmas.{value_reached, value_of_reached, within_same, same_at_itself}
 
 -- ---- the same the other way round
@@ -38,32 +37,25 @@ value_there ks t v is low e =
     let same = some_is (sym (value_reached ks t r) ∙ e) in
     (subst IsTree same (at_tree ks t is), subst (λ w. depth w ≤ 100) same (at_shallow ks t 100 r low))
 
-pub both_there : (old new : List ℕ) (ks : List ℕ) (t u value : Tree) (before after : Spot) (r : Bool) → Stands old t → IsAt old (value_at ks t) (Some before) → IsAt new (value_at ks u) (Some after)
+pub both_there : (old new : List ℕ) (ks : List ℕ) (t u value : Tree) (before after : Spot) (r : Bool) → Stands old t → StandsFor old (value_at ks t) (Some before) → StandsFor new (value_at ks u) (Some after)
     → ((v : Tree) → IsTree v → IsValue old v (spot_of before) → depth v ≤ 100 → value ≡ v) → ((w : Tree) → IsValue new w (spot_of after) → r ≡ same_tree w value) → r ≡ same_where (value_at ks t) (value_at ks u)
 both_there old new ks t u value before after r s a b read compared = go (value_at ks t) (value_at ks u) refl a b
   where
-    go : (o p : Option Tree) → value_at ks t ≡ o → IsAt old o (Some before) → IsAt new p (Some after) → r ≡ same_where o p
+    go : (o p : Option Tree) → value_at ks t ≡ o → StandsFor old o (Some before) → StandsFor new p (Some after) → r ≡ same_where o p
     go None p e a b = absurd a
     go (Some v) None e a b = absurd b
     go (Some v) (Some w) e a b =
         let is = value_there ks t v s.«tree» s.nested e in
         compared w b ∙ ap (same_tree w) (read v is.0 a is.1) ∙ same_turned w v
 
--- ---- what is stored for edits in place
+-- ---- a draft at its end
 
-module _ (bytes new : List ℕ) (t u : Tree) where
-  pub deep_is_other : Stands bytes t → 100 < depth u → IsOther (finished bytes t (in_place new u))
-  deep_is_other s high = go (same_tree t u) refl
-    where
-      go : (b : Bool) → same_tree t u ≡ b → IsOther (cond b Same (stored_as bytes (in_place new u)))
-      go true e = let same = ap depth (tree_equal t u e) in let low = s.nested in absurd (omega (arith, low, same, high))
-      go false e = tt
+pub ended_at : (items : List ℕ) (p : Progress) → p.edited ≡ Some items → p ≡ in_place items p.«tree»
+ended_at items p e = ap (λ o. record { «tree» = p.«tree»; edited = o }) e
 
-  pub restored_is_same : same_tree t u ≡ true → finished bytes t (in_place new u) ≡ Same
-  restored_is_same e = rw e refl
-
-  pub other_is_parts : same_tree t u ≡ false → finished bytes t (in_place new u) ≡ Parts (runs bytes new)
-  other_is_parts e = rw e refl
+-- the document's own value
+root_at : (items b1 b2 : List ℕ) (t : Tree) (s : layout.Spot) → b1 ≡ items → b2 ≡ items → s ≡ layout.root b1 → IsValue items t (layout.root items) → IsValue b2 t s
+root_at items b1 b2 t s e1 e2 es h = subst (λ b. IsValue b t s) (sym e2) (subst (IsValue items t) (sym (es ∙ ap layout.root e1)) h)
 
 module _ (t u : Tree) (d : Draft) (h : IsDraft t d u) where
   pub restored_draft : true ≡ same_at (map (λ ks. ks.items) d.touched.items) t u → same_tree t u ≡ true

@@ -5,11 +5,11 @@ use Rattle.binary_model.specs.Layout as layout
 use Rattle.binary_model.specs.Layout.{Kind, kind_at, kind_of, container_as, container_at, count, end, entries_end, value_entry, value_width, inlined, child, value_end, end_as, values_floor}
 use Rattle.binary_model.specs.Stands.{IsValue}
 use Rattle.binary_model.specs.Change.{end_before, start_from, room_end}
-use Rattle.binary_model.proofs.StayLemmas.{bounds}
-use Rattle.binary_model.proofs.AgainLemmas.{entry_within}
-use Rattle.binary_model.proofs.RefitLemmas.{nth, rest, FoundAt, element_at}
-use Rattle.json_binary.specs.declared.place.Spot.{Spot}
-use Rattle.json_binary.specs.declared.place.Container.{Container}
+use Rattle.binary_model.proofs.in_place.StayLemmas.{bounds}
+use Rattle.binary_model.proofs.in_place.AgainLemmas.{entry_within}
+use Rattle.binary_model.proofs.in_place.RefitLemmas.{nth, rest, FoundAt, element_at}
+use Rattle.json_binary.specs.declared.cursor.place.Spot.{Spot}
+use Rattle.json_binary.specs.declared.cursor.place.Container.{Container}
 use Rattle.json_binary.specs.Place.{container_of, spot_of, IsInside}
 use Rattle.json_binary.specs.View.{form_of}
 use Rattle.json_patch.specs.Stand.{HasValue, Values, HasValues}
@@ -29,13 +29,13 @@ kid_in bytes c k s h low e =
     let extent = bounds bytes (nth ts k) (spot_of s) v in
     let a = extent.0 in
     let b = extent.1 in
-    let tag : s.tag ≡ value_entry bytes (container_of c) k = ap (λ u. u.tag) e in
-    let window : s.window ≡ end bytes (container_of c) = ap (λ u. u.window) e in
+    let type_at : s.type_at ≡ value_entry bytes (container_of c) k = ap (λ u. u.type_at) e in
+    let limit : s.limit ≡ end bytes (container_of c) = ap (λ u. u.limit) e in
     let entry = entry_within bytes (container_of c) k (count bytes (container_of c)) low in
     let inside = h.0.1 in
     let whole = h.0.2 in (
       (nth ts k, v),
-      record { tagged = omega (arith, tag, entry, whole, inside); begins = omega (arith, a, b); ends = omega (arith, window, inside) },
+      record { typed_at = omega (arith, type_at, entry, whole, inside); begins = omega (arith, a, b); ends = omega (arith, limit, inside) },
     )
 
 -- no value with an offset yet: the room begins, and ends, one value further on
@@ -45,22 +45,22 @@ skip_before bytes c k j e h = sym (ap (λ b. cond b (end_before bytes c j) (valu
 pub found_before : (bytes : List ℕ) (c : layout.Container) (k j : ℕ) → inlined bytes c j ≡ false → end_before bytes c (suc j) ≡ end_before bytes c k → value_end bytes (child bytes c j) ≡ end_before bytes c k
 found_before bytes c k j e h = sym (ap (λ b. cond b (end_before bytes c j) (value_end bytes (child bytes c j))) e) ∙ h
 
-inlined_here : (bytes : List ℕ) (c : Container) (j : ℕ) (s : Spot) (b : Bool) → spot_of s ≡ child bytes (container_of c) j → layout.is_inlined (form_of c.form) (kind_at bytes s.tag) ≡ b → inlined bytes (container_of c) j ≡ b
-inlined_here bytes c j s b e h = ap (λ u. layout.is_inlined (form_of c.form) (kind_at bytes u.tag)) (sym e) ∙ h
+inlined_here : (bytes : List ℕ) (c : Container) (j : ℕ) (s : Spot) (b : Bool) → spot_of s ≡ child bytes (container_of c) j → layout.is_inlined (form_of c.form) (kind_at bytes s.type_at) ≡ b → inlined bytes (container_of c) j ≡ b
+inlined_here bytes c j s b e h = ap (λ u. layout.is_inlined (form_of c.form) (kind_at bytes u.type_at)) (sym e) ∙ h
 
-pub back_over : (bytes : List ℕ) (c : Container) (k n : ℕ) (s : Spot) → 0 < n → spot_of s ≡ child bytes (container_of c) (n - 1) → layout.is_inlined (form_of c.form) (kind_at bytes s.tag) ≡ true
+pub back_over : (bytes : List ℕ) (c : Container) (k n : ℕ) (s : Spot) → 0 < n → spot_of s ≡ child bytes (container_of c) (n - 1) → layout.is_inlined (form_of c.form) (kind_at bytes s.type_at) ≡ true
     → end_before bytes (container_of c) n ≡ end_before bytes (container_of c) k → end_before bytes (container_of c) (n - 1) ≡ end_before bytes (container_of c) k
 back_over bytes c k n s low e h same =
     let back : suc (n - 1) ≡ n = omega (arith, low) in
     skip_before bytes (container_of c) k (n - 1) (inlined_here bytes c (n - 1) s true e h) (ap (end_before bytes (container_of c)) back ∙ same)
 
-pub back_to : (bytes : List ℕ) (c : Container) (k n : ℕ) (s : Spot) → 0 < n → spot_of s ≡ child bytes (container_of c) (n - 1) → layout.is_inlined (form_of c.form) (kind_at bytes s.tag) ≡ false
+pub back_to : (bytes : List ℕ) (c : Container) (k n : ℕ) (s : Spot) → 0 < n → spot_of s ≡ child bytes (container_of c) (n - 1) → layout.is_inlined (form_of c.form) (kind_at bytes s.type_at) ≡ false
     → end_before bytes (container_of c) n ≡ end_before bytes (container_of c) k → value_end bytes (spot_of s) ≡ end_before bytes (container_of c) k
 back_to bytes c k n s low e h same =
     let back : suc (n - 1) ≡ n = omega (arith, low) in
     ap (value_end bytes) e ∙ found_before bytes (container_of c) k (n - 1) (inlined_here bytes c (n - 1) s false e h) (ap (end_before bytes (container_of c)) back ∙ same)
 
-pub on_over : (bytes : List ℕ) (c : Container) (k n : ℕ) (s : Spot) → n < count bytes (container_of c) → spot_of s ≡ child bytes (container_of c) n → layout.is_inlined (form_of c.form) (kind_at bytes s.tag) ≡ true
+pub on_over : (bytes : List ℕ) (c : Container) (k n : ℕ) (s : Spot) → n < count bytes (container_of c) → spot_of s ≡ child bytes (container_of c) n → layout.is_inlined (form_of c.form) (kind_at bytes s.type_at) ≡ true
     → start_from bytes (container_of c) (count bytes (container_of c) - n) n ≡ room_end bytes (container_of c) k
     → start_from bytes (container_of c) (count bytes (container_of c) - (n + 1)) (n + 1) ≡ room_end bytes (container_of c) k
 on_over bytes c k n s low e h same =

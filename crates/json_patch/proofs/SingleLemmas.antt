@@ -1,4 +1,4 @@
--- An edit that puts one value where a path leads, below the root: when it leaves its tree equal, how deep its tree is, and what is stored for it.
+-- A value put where a path leads, below the root: when it leaves its tree equal, how deep its tree is, and where it stands.
 use Rattle.std.proofs.Common.{nat_lt, ◌≡◌, ℕ, zero, suc, ◌+◌, ◌≤◌, ◌<◌, max, Bool, true, false, true≢false, List, [], ◌∷◌, length, Option, Some, None, option_map, option_and_then, is_some, refl, sym, ap, subst, ◌∙◌, arith}
 use Rattle.tree_model.specs.Tree.{Tree, null, boolean, number, text, array, object, Trees, no_trees, tree, tree_list, Members, no_members, member, depth, trees_depth, members_depth, IsTree, AreTrees, HoldTrees}
 use Rattle.std.proofs.Common.{◌++◌, ◌==◌, if◌then◌else◌, ◌⊎◌, inl, inr}
@@ -8,30 +8,19 @@ use Rattle.tree_model.specs.Path.{Leg, key, cell, last, Path, child}
 use Rattle.tree_model.specs.Same.{same_tree}
 use Rattle.tree_model.proofs.SameLemmas.{tree_equal, tree_itself}
 use Rattle.binary_model.specs.Layout as layout
-use Rattle.binary_model.specs.Stands.{IsValue, Stands}
-use Rattle.binary_model.specs.Canonical.{spelling, canonical_length}
-use Rattle.tree_model.specs.Edit as model
-use Rattle.tree_model.specs.Edit.{set, replace}
+use Rattle.binary_model.specs.Stands.{IsValue}
 use Rattle.json_binary.specs.Place.{container_of}
-use Rattle.json_binary.specs.declared.place.Container.{Container}
-use Rattle.json_patch.specs.View.{runs_of}
+use Rattle.json_binary.specs.declared.cursor.place.Container.{Container}
 use Rattle.json_patch.specs.Stand.{HasValues}
-use Rattle.json_patch.specs.Led.{IsLed, ActsOn}
-use Rattle.json_patch.specs.Single.{IsPlanOf, IsInPlace}
-use Rattle.json_patch.specs.Answer.{IsStored, IsEncoded}
-use Rattle.json_patch.specs.declared.place.Place.TheVariants.{Root, Inside}
-use Rattle.json_patch.specs.declared.parts.Parts.{Parts as Changed}
-use Rattle.std.specs.Prelude.{Ok}
-use Rattle.json_patch.specs.declared.planning.Planned.{Planned}
-use Rattle.json_patch.specs.declared.planning.Planned.TheVariants as planned
-use Rattle.binary_model.specs.Change.{position_of, positions, at_holder, Run, runs, runs_from, grown, differing, Progress, step, replaced_by, with_value, finished, Same, Parts}
-use Rattle.json_patch.specs.Draft.{putting}
-use Rattle.binary_model.proofs.AgreeLemmas.{some_is}
-use Rattle.binary_model.proofs.StandLemmas.{values}
-use Rattle.binary_model.proofs.RefitLemmas.{nth, with_element, element_at}
-use Rattle.binary_model.proofs.KidsLemmas.{kids, with_nth_member, with_kid, Kids, to_kids}
-use Rattle.binary_model.proofs.LiftLemmas.{Reaches}
-use Rattle.binary_model.proofs.PositionLemmas.{put_at, set_positions, replace_positions}
+use Rattle.json_patch.specs.Led.{ActsThere}
+use Rattle.json_patch.specs.declared.lead.Place.{Place}
+use Rattle.binary_model.specs.Change.{position_of, positions, at_holder, Run, runs, runs_from, grown, differing, Progress, step}
+use Rattle.binary_model.proofs.in_place.AgreeLemmas.{some_is}
+use Rattle.binary_model.proofs.reading.StandLemmas.{values}
+use Rattle.binary_model.proofs.in_place.RefitLemmas.{nth, with_element, element_at}
+use Rattle.binary_model.proofs.in_place.KidsLemmas.{kids, with_nth_member, with_kid, Kids, to_kids}
+use Rattle.binary_model.proofs.in_place.LiftLemmas.{Reaches}
+use Rattle.binary_model.proofs.in_place.PositionLemmas.{put_at, set_positions}
 
 -- the value where the positions lead
 abbrev pub value_at : List ℕ → Tree → Tree
@@ -228,11 +217,11 @@ at_shallow (k ∷ ks) t most r h = let kid : suc (depth (nth (kids t) k)) ≤ de
 
 -- the spot of a container's value, as what an act may hand on
 spot_act : List ℕ → layout.Container → ℕ → Option (List ℕ)
-spot_act bytes c k = Some ((layout.child bytes c k).tag ∷ (layout.child bytes c k).at ∷ (layout.child bytes c k).window ∷ [])
+spot_act bytes c k = Some ((layout.child bytes c k).type_at ∷ (layout.child bytes c k).at ∷ (layout.child bytes c k).limit ∷ [])
 
 spot_from : Option (List ℕ) → layout.Spot
-spot_from (Some (tag ∷ at ∷ window ∷ [])) = record { tag = tag; at = at; window = window }
-spot_from o = record { tag = 0; at = 0; window = 0 }
+spot_from (Some (type_at ∷ at ∷ limit ∷ [])) = record { type_at = type_at; at = at; limit = limit }
+spot_from o = record { type_at = 0; at = 0; limit = 0 }
 
 same_spot : (bytes : List ℕ) (c d : layout.Container) (k n : ℕ) → spot_act bytes c k ≡ spot_act bytes d n → layout.child bytes c k ≡ layout.child bytes d n
 unfolding spot_act spot_from
@@ -264,91 +253,31 @@ step_same edit after p h = rw h refl
 pub step_other : (edit : List ℕ → Option (List ℕ)) (after : Tree) (p : Progress) → same_tree p.«tree» after ≡ false → step edit after p ≡ record { «tree» = after; edited = option_and_then edit p.edited }
 step_other edit after p h = rw h refl
 
-module _ (bytes : List ℕ) (t u : Tree) (path : Path) (ks : List ℕ) (act : Path → Tree → Tree → Tree)
-    (put : (act path u t ≡ put_at ks u t) × Reaches ks t) where
-  same_after : same_tree t (act path u t) ≡ same_tree (value_at ks t) u
-  same_after = ap (same_tree t) put.0 ∙ same_put ks u t put.1
-
-  pub single_same : same_tree (value_at ks t) u ≡ true → finished bytes t (replaced_by act path u (record { «tree» = t; edited = Some bytes })) ≡ Same
-  single_same h =
-      let as_it_was = step_same (putting path u t) (act path u t) (record { «tree» = t; edited = Some bytes }) (same_after ∙ h) in
-      ap (finished bytes t) as_it_was ∙ rw (tree_itself t) refl
-
-  pub single_parts : (new : List ℕ) → same_tree (value_at ks t) u ≡ false → putting path u t bytes ≡ Some new → finished bytes t (replaced_by act path u (record { «tree» = t; edited = Some bytes })) ≡ Parts (runs bytes new)
-  single_parts new h made =
-      let stepped = step_other (putting path u t) (act path u t) (record { «tree» = t; edited = Some bytes }) (same_after ∙ h) in
-      ap (finished bytes t) (stepped ∙ ap (λ o. record { «tree» = act path u t; edited = o }) made) ∙ rw (same_after, h) refl
-
-  pub single_shallow : (most : ℕ) → depth t ≤ most → length ks + depth u ≤ most → depth (act path u t) ≤ most
-  single_shallow most h g = subst (λ x. depth x ≤ most) (sym put.0) (put_deep ks u t most put.1 h g)
-
 -- ---- where the place is known
 
-pub led_inside : (bytes : List ℕ) (s : layout.Spot) (o : Option (List ℕ)) (c : Container) (k : ℕ) → IsLed bytes s Root o (Some (Inside c k))
-    → (j : ℕ) × (js : List ℕ) × (o ≡ Some (j ∷ js)) × ActsOn bytes s (j ∷ js) (Inside c k)
-led_inside bytes s None c k h = let no : ⊥ = cc in absurd no
-led_inside bytes s (Some []) c k h = let no : ⊥ = cc in absurd no
-led_inside bytes s (Some (j ∷ js)) c k h = (j, js, refl, h)
-
--- the place that a path leads to in bytes that stand for a tree, and the value there
-pub record Place (bytes : List ℕ) (t : Tree) (path : Path) (c : Container) (k : ℕ) : Type 0 where
-  pub first : ℕ
-  pub others : List ℕ
-  pub at : positions path t ≡ Some (first ∷ others)
+-- the place that a path leads to, as bytes that stand for a tree have it
+pub record Found (bytes : List ℕ) (t : Tree) (ks : List ℕ) (c : Container) (k : ℕ) : Type 0 where
   pub values : HasValues bytes c
   pub low : k < layout.count bytes (container_of c)
-  pub acts : (act : layout.Container → ℕ → Option (List ℕ)) → at_holder bytes act (layout.root bytes) (first ∷ others) ≡ act (container_of c) k
-  pub reaches : Reaches (first ∷ others) t
-  pub there : IsValue bytes (value_at (first ∷ others) t) (layout.child bytes (container_of c) k)
+  pub reaches : Reaches ks t
+  pub there : IsValue bytes (value_at ks t) (layout.child bytes (container_of c) k)
 
-pub place_found : (bytes : List ℕ) (t : Tree) (path : Path) (s : layout.Spot) (c : Container) (k : ℕ) → IsTree t → IsValue bytes t (layout.root bytes) → s ≡ layout.root bytes → IsLed bytes s Root (positions path t) (Some (Inside c k)) → Place bytes t path c k
-place_found bytes t path s c k is value root led =
-    let found = led_inside bytes (layout.root bytes) (positions path t) c k (subst (λ s. IsLed bytes s Root (positions path t) (Some (Inside c k))) root led) in
-    let reach = (set_positions path null t (found.0 ∷ found.1) is found.2).1 in
+no_holder : {X : Type 0} (f : layout.Container → ℕ → Option (List ℕ)) (c : layout.Container) (k : ℕ) → None ≡ spot_act [] c k → X
+unfolding spot_act
+no_holder f c k e = absurd (true≢false (sym (ap is_some e)))
+
+pub place_found : (bytes : List ℕ) (t : Tree) (path : Path) (ks : List ℕ) (p : Place) → IsTree t → IsValue bytes t (layout.root bytes) → positions path t ≡ Some ks → ActsThere bytes ks p → Found bytes t ks p.container p.number
+place_found bytes t path [] p is value at a = no_holder (spot_act []) (container_of p.container) p.number (a.acts (spot_act []))
+place_found bytes t path (k ∷ ks) p is value at a =
+    let reach = (set_positions path null t (k ∷ ks) is at).1 in
     record {
-      first = found.0;
-      others = found.1;
-      at = found.2;
-      values = found.3.0;
-      low = found.3.1;
-      acts = found.3.2;
+      values = a.kid.values;
+      low = a.kid.low;
       reaches = reach;
-      there = stands_there found.1 found.0 bytes t (layout.root bytes) (container_of c) k value reach found.3.2;
+      there = stands_there ks k bytes t (layout.root bytes) (container_of p.container) p.number value reach a.acts;
     }
 
 -- ---- as many as may be nested
 
 pub not_over : (n : ℕ) (over : Bool) → over ≡ nat_lt 100 n → over ≡ false → n ≤ 100
 not_over n over e h = let low = ltb-false 100 n (sym e ∙ h) in omega (arith, low)
-
--- ---- the plan of one pair
-
-module _ (bytes : List ℕ) (t u : Tree) (path : Path) (c : Container) (k : ℕ) (stands : Stands bytes t) (p : Place bytes t path c k) where
-  made_there : (new : List ℕ) → with_value bytes (spelling u) (container_of c) k ≡ Some new → putting path u t bytes ≡ Some new
-  made_there new made = ap (option_and_then (at_holder bytes (with_value bytes (spelling u)) (layout.root bytes))) p.at ∙ p.acts (with_value bytes (spelling u)) ∙ made
-
-  pub same_plan : (e : model.Edit) → (e ≡ model.Set ((path, u) ∷ [])) ⊎ (e ≡ model.Replace ((path, u) ∷ [])) → same_tree (value_at (p.first ∷ p.others) t) u ≡ true → IsPlanOf bytes t e planned.Same
-  same_plan e (inl is) h = subst (λ e. IsPlanOf bytes t e planned.Same) (sym is)
-      (subst (λ c. IsStored c (depth (set path u t)) (canonical_length (set path u t)) planned.Same) (sym (single_same bytes t u path (p.first ∷ p.others) set (set_positions path u t (p.first ∷ p.others) stands.«tree» p.at) h)) tt)
-  same_plan e (inr is) h = subst (λ e. IsPlanOf bytes t e planned.Same) (sym is)
-      (subst (λ c. IsStored c (depth (replace path u t)) (canonical_length (replace path u t)) planned.Same) (sym (single_same bytes t u path (p.first ∷ p.others) replace (replace_positions path u t (p.first ∷ p.others) stands.«tree» p.at) h)) tt)
-
-  pub parts_plan : (e : model.Edit) → (e ≡ model.Set ((path, u) ∷ [])) ⊎ (e ≡ model.Replace ((path, u) ∷ [])) → same_tree (value_at (p.first ∷ p.others) t) u ≡ false
-      → (new : List ℕ) → with_value bytes (spelling u) (container_of c) k ≡ Some new → length path + depth u ≤ 100 → (parts : Changed) → runs_of parts ≡ runs bytes new → IsPlanOf bytes t e (planned.Parts parts)
-  parts_plan e (inl is) h new made low parts runs_are =
-      let put = set_positions path u t (p.first ∷ p.others) stands.«tree» p.at in
-      let few : length (p.first ∷ p.others) ≤ length path = few_entered path t (p.first ∷ p.others) p.at in
-      subst (λ e. IsPlanOf bytes t e (planned.Parts parts)) (sym is)
-      (subst (λ c. IsStored c (depth (set path u t)) (canonical_length (set path u t)) (planned.Parts parts)) (sym (single_parts bytes t u path (p.first ∷ p.others) set put new h (made_there new made)))
-      (single_shallow bytes t u path (p.first ∷ p.others) set put 100 stands.nested (omega (arith, few, low)), runs_are))
-  parts_plan e (inr is) h new made low parts runs_are =
-      let put = replace_positions path u t (p.first ∷ p.others) stands.«tree» p.at in
-      let few : length (p.first ∷ p.others) ≤ length path = few_entered path t (p.first ∷ p.others) p.at in
-      subst (λ e. IsPlanOf bytes t e (planned.Parts parts)) (sym is)
-      (subst (λ c. IsStored c (depth (replace path u t)) (canonical_length (replace path u t)) (planned.Parts parts)) (sym (single_parts bytes t u path (p.first ∷ p.others) replace put new h (made_there new made)))
-      (single_shallow bytes t u path (p.first ∷ p.others) replace put 100 stands.nested (omega (arith, few, low)), runs_are))
-
-pub none_encoded : (t : Tree) (plan : Planned) → IsInPlace plan → IsEncoded t (Ok plan)
-none_encoded t planned.Same h = tt
-none_encoded t (planned.Parts parts) h = tt
-none_encoded t (planned.Full out) h = absurd h

@@ -8,7 +8,7 @@ use Rattle.std.proofs.lemmas.Bool.{cases_lt}
 use Rattle.std.specs.List.{All}
 use Rattle.std.specs.List.Sorted.{IsPermutation, IsNonDecreasingBy}
 use Rattle.binary_model.specs.Change.{Run, runs, written}
-use Rattle.binary_model.proofs.WrittenLemmas.{written_length, written_below, written_behind}
+use Rattle.binary_model.proofs.in_place.WrittenLemmas.{written_length, written_below, written_behind}
 use Rattle.json_patch.specs.declared.spans.Span.{Span}
 use Rattle.json_patch.specs.Spans.{IsOutsideOf, DifferInSpans}
 use Rattle.json_patch.proofs.TouchLemmas.{no_runs, written_seam, AddsBytes}

@@ -4,7 +4,7 @@ use Rattle.std.proofs.Math.Seq.{take-append_seam, drop-append-add, drop-append_s
 use Rattle.std.proofs.lemmas.List.{length-append, length-take-le, append_assoc, take-append-drop, drop-drop, take_more, take_more_set, drop_more, length-set, map-append}
 use Rattle.std.proofs.lemmas.Bool.{eq-eqb, ne_eqb, eqb-true, eqb-false}
 use Rattle.binary_model.specs.Change.{Run, grown, runs_from, runs, written}
-use Rattle.binary_model.proofs.WrittenLemmas.{written_length}
+use Rattle.binary_model.proofs.in_place.WrittenLemmas.{written_length}
 use Rattle.json_patch.specs.declared.parts.Patch.{Patch}
 use Rattle.json_patch.specs.declared.writes.Write.{Write}
 use Rattle.json_patch.specs.View.{run_of}

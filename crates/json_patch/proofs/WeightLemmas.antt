@@ -3,10 +3,10 @@ use Rattle.std.proofs.Common.{◌≡◌, ℕ, zero, suc, ◌+◌, ◌≤◌, ◌
 use Rattle.std.specs.Ordering.{match_ordering}
 use Rattle.tree_model.specs.Tree.{Tree, null, boolean, number, text, array, object, Trees, no_trees, tree, tree_list, trees, Members, no_members, member, get, put, key_cmp}
 use Rattle.tree_model.proofs.KeyLemmas.{key_equal, same_bytes}
-use Rattle.binary_model.proofs.StandLemmas.{values}
-use Rattle.binary_model.proofs.RefitLemmas.{nth, with_element}
-use Rattle.binary_model.proofs.KidsLemmas.{kids, with_nth_member, with_kid}
-use Rattle.binary_model.proofs.RemoveLemmas.{without_element, without_nth_member, without_kid}
+use Rattle.binary_model.proofs.reading.StandLemmas.{values}
+use Rattle.binary_model.proofs.in_place.RefitLemmas.{nth, with_element}
+use Rattle.binary_model.proofs.in_place.KidsLemmas.{kids, with_nth_member, with_kid}
+use Rattle.binary_model.proofs.in_place.RemoveLemmas.{without_element, without_nth_member, without_kid}
 use Rattle.json_patch.specs.Touched.{weight, trees_weight, members_weight}
 
 pub some_weight : (t : Tree) → 1 ≤ weight t

@@ -7,12 +7,12 @@ use Rattle.std.proofs.lemmas.Option.{none-some, slice_get-map, slice_get_within,
 use Rattle.tree_model.specs.Tree.{Tree, null, array, object, Trees, no_trees, tree, tree_list, trees, Members, no_members, member, member_list, members, depth}
 use Rattle.tree_model.proofs.TreeLemmas.{tree_list-trees, trees-tree_list}
 use Rattle.tree_model.proofs.SameLemmas.{tree_equal, tree_itself}
-use Rattle.binary_model.proofs.AgreeLemmas.{some_is}
-use Rattle.binary_model.proofs.StandLemmas.{values}
-use Rattle.binary_model.proofs.RefitLemmas.{nth, with_element}
-use Rattle.binary_model.proofs.KidsLemmas.{kids as kid_trees, with_nth_member, with_kid}
-use Rattle.binary_model.proofs.LiftLemmas.{Reaches}
-use Rattle.binary_model.proofs.PositionLemmas.{put_at}
+use Rattle.binary_model.proofs.in_place.AgreeLemmas.{some_is}
+use Rattle.binary_model.proofs.reading.StandLemmas.{values}
+use Rattle.binary_model.proofs.in_place.RefitLemmas.{nth, with_element}
+use Rattle.binary_model.proofs.in_place.KidsLemmas.{kids as kid_trees, with_nth_member, with_kid}
+use Rattle.binary_model.proofs.in_place.LiftLemmas.{Reaches}
+use Rattle.binary_model.proofs.in_place.PositionLemmas.{put_at}
 use Rattle.json_patch.specs.Touched.{kids, value_at, frame, frame_at, begins, IsOutside, DifferWithin, same_where, same_at}
 use Rattle.json_patch.proofs.PlaceLemmas.{found_at}
 use Rattle.json_patch.proofs.SingleLemmas as single

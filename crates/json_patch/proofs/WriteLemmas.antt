@@ -1,23 +1,23 @@
 -- The writes of an edit in place make what the definition says.
-use Rattle.std.proofs.Common.{◌≡◌, ◌≤◌, ◌<◌, ℕ, zero, suc, ◌+◌, ◌-◌, ◌^◌, min, false, List, [], ◌∷◌, length, drop, Some, None, Result, Ok, Err, IfOk, refl, sym, ap, ap₂, subst, ◌∙◌, arith, cond, nat_le}
-use Rattle.std.proofs.lemmas.Bool.{le-leb, lt-leb}
+use Rattle.std.proofs.Common.{◌≡◌, ◌≤◌, ◌<◌, ℕ, zero, suc, ◌+◌, ◌-◌, Bool, true, false, replicate, List, [], ◌∷◌, length, drop, Some, None, Result, Ok, Err, IfOk, refl, sym, ap, ap₂, subst, ◌∙◌, arith, cond, nat_le}
+use Rattle.std.proofs.lemmas.Bool.{le-leb, lt-leb, leb-true}
+use Rattle.std.proofs.lemmas.List.{length-append, length-replicate}
 use Rattle.std.specs.Int.{bytes_low_first}
-use Rattle.tree_model.specs.Tree.{Tree, Trees, tree_list}
+use Rattle.tree_model.specs.Tree.{Tree, null, boolean, number, text, array, object, Trees, tree_list}
 use Rattle.binary_model.specs.Layout as layout
-use Rattle.binary_model.specs.Layout.{word, code_of, is_inlined, count, end, header_end, key_entry, values_at, entries_end, value_entry, values_floor, value_width, key_width, child}
-use Rattle.binary_model.specs.Canonical.{spelling, inlined_bytes, low_bytes, measure}
+use Rattle.binary_model.specs.Layout.{Form, small, large, Kind, signed, unsigned, word, code_of, is_inlined, count, end, header_end, key_entry, values_at, entries_end, value_entry, values_floor, value_width, key_width, child}
+use Rattle.binary_model.specs.Canonical.{Spelling, spelling, inlined_bytes, fill, low_bytes, measure, number_kind, width_of}
 use Rattle.binary_model.specs.Change.{written, end_before, start_from, room_start, room_end, in_entry, at_place, with_value}
-use Rattle.binary_model.proofs.LengthLemmas.{measured-spelling}
-use Rattle.binary_model.proofs.AgainLemmas.{entry_within, values_first}
-use Rattle.binary_model.proofs.RefitLemmas.{nth, rest, rest_length, ends_rise, FoundAt, element_at}
-use Rattle.binary_model.proofs.ReplaceLemmas.{starts_within, place_above}
-use Rattle.json_binary.specs.Sizes.{capped}
+use Rattle.binary_model.proofs.canonical.LengthLemmas.{measured-spelling}
+use Rattle.binary_model.proofs.in_place.AgainLemmas.{entry_within, values_first}
+use Rattle.binary_model.proofs.in_place.RefitLemmas.{nth, rest, rest_length, ends_rise, FoundAt, element_at}
+use Rattle.binary_model.proofs.in_place.ReplaceLemmas.{starts_within, place_above}
 use Rattle.json_binary.specs.Writing.{entry}
-use Rattle.json_binary.specs.declared.place.Container.{Container}
+use Rattle.json_binary.specs.declared.cursor.place.Container.{Container}
 use Rattle.json_binary.specs.Place.{container_of}
 use Rattle.json_patch.specs.declared.writes.Write.{Write}
 use Rattle.json_patch.specs.Stand.{Values, HasValues}
-use Rattle.json_patch.specs.Writes.{IsMade}
+use Rattle.json_patch.specs.Writes.{AreWritesFor}
 
 length-bytes_low_first : (i n x : ℕ) → length (bytes_low_first i n x) ≡ n
 length-bytes_low_first i zero x = refl
@@ -52,55 +52,100 @@ lies_in bytes c ts k h low =
 pub lies : (bytes : List ℕ) (c : Container) (k : ℕ) → HasValues bytes c → k < count bytes (container_of c) → Lies bytes (container_of c) k
 lies bytes c k h low = let (ts, vs) = h.1 in lies_in bytes (container_of c) ts k vs low
 
--- a value's size and its kind are those of its spelling
+-- ---- a value replaced
+
+-- the choices of the room rule
+chosen : (bytes : List ℕ) (c : layout.Container) (k : ℕ) (v : Spelling) (inside fits : Bool) → is_inlined c.form v.0 ≡ inside → nat_le (room_start bytes c k + length v.1) (room_end bytes c k) ≡ fits
+    → with_value bytes v c k ≡ cond inside (Some (in_entry bytes c k v)) (cond fits (Some (at_place bytes c k (room_start bytes c k) v)) None)
+chosen bytes c k v inside fits e f =
+    ap (λ b. cond b (Some (in_entry bytes c k v)) (cond (nat_le (room_start bytes c k + length v.1) (room_end bytes c k)) (Some (at_place bytes c k (room_start bytes c k) v)) None)) e
+    ∙ ap (λ b. cond inside (Some (in_entry bytes c k v)) (cond b (Some (at_place bytes c k (room_start bytes c k) v)) None)) f
+
+-- too long for the room
+pub too_long : (bytes : List ℕ) (c : layout.Container) (k : ℕ) (v : Spelling) → is_inlined c.form v.0 ≡ false → room_end bytes c k < room_start bytes c k + length v.1 → with_value bytes v c k ≡ None
+too_long bytes c k v out long = chosen bytes c k v false false out (lt-leb _ _ long)
+
+-- what stands in an entry is no longer than an offset
+narrow_kind : (form : Form) (kind : Kind) → is_inlined form kind ≡ true → width_of kind ≤ word form
+narrow_kind form (signed width) e = leb-true width (word form) e
+narrow_kind form (unsigned width) e = leb-true width (word form) e
+narrow_kind form kind e = omega arith
+
+some_word : (form : Form) → (1 ≤ word form) × (word form ≤ 4)
+some_word small = (omega arith, omega arith)
+some_word large = (omega arith, omega arith)
+
+narrow : (form : Form) (t : Tree) → is_inlined form (measure t).0 ≡ true → (measure t).1 ≤ word form
+narrow form null e = (some_word form).0
+narrow form (boolean b) e = (some_word form).0
+narrow form (number z) e = narrow_kind form (number_kind z) e
+narrow form (text x) e = let no : ⊥ = cc in absurd no
+narrow form (array ts) e = let no : ⊥ = cc in absurd no
+narrow form (object ms) e = let no : ⊥ = cc in absurd no
+
 pub size_of : (t : Tree) → length (spelling t).1 ≡ (measure t).1
 size_of t = ap (λ m. m.1) (measured-spelling t)
 
-pub kind_of_value : (t : Tree) → (spelling t).0 ≡ (measure t).0
-kind_of_value t = ap (λ m. m.0) (measured-spelling t)
+-- one that is longer than a document can be stands in no entry, and fits no room
+pub too_large : (bytes : List ℕ) (c : Container) (k : ℕ) (t : Tree) → HasValues bytes c → k < count bytes (container_of c) → length bytes ≤ 16777216 → 16777216 ≤ (measure t).1 → with_value bytes (spelling t) (container_of c) k ≡ None
+too_large bytes c k t h low near high =
+    let d = container_of c in
+    let l = lies bytes c k h low in
+    let a = l.entry in
+    let b = l.top in
+    let start = l.start in
+    let last = h.0.1 in
+    let size = size_of t in
+    too_long bytes d k (spelling t) (ap (λ m. is_inlined d.form m.0) (measured-spelling t) ∙ wide (is_inlined d.form (measure t).0) refl) (omega (arith, a, b, start, last, near, high, size))
+  where
+    wide : (b : Bool) → is_inlined (container_of c).form (measure t).0 ≡ b → is_inlined (container_of c).form (measure t).0 ≡ false
+    wide true e = let few = narrow (container_of c).form t e in let word = (some_word (container_of c).form).1 in absurd (omega (arith, few, word, high))
+    wide false e = e
 
--- too long for the room
-pub too_long : (bytes : List ℕ) (c : layout.Container) (k size : ℕ) (t : Tree) → is_inlined c.form (measure t).0 ≡ false → size ≡ capped (measure t).1 → room_end bytes c k < min (room_start bytes c k + size) (2 ^ 64 - 1)
-    → with_value bytes (spelling t) c k ≡ None
-too_long bytes c k size t out sized long =
-    let v = spelling t in
-    let outside : is_inlined c.form v.0 ≡ false = ap (is_inlined c.form) (kind_of_value t) ∙ out in
-    let size_eq = size_of t in
-    let over : room_end bytes c k < room_start bytes c k + length v.1 = omega (arith, long, sized, size_eq) in
-    ap (λ b. cond b (Some (in_entry bytes c k v)) (cond (nat_le (room_start bytes c k + length v.1) (room_end bytes c k)) (Some (at_place bytes c k (room_start bytes c k) v)) None)) outside
-    ∙ ap (λ b. cond b (Some (at_place bytes c k (room_start bytes c k) v)) None) (lt-leb _ _ over)
+-- in its entry, in one write
+pub made_inlined : (bytes : List ℕ) (c : Container) (k : ℕ) (t : Tree) (v : Spelling) (w : Write) (ws : List Write) → HasValues bytes c → k < count bytes (container_of c) → v ≡ spelling t → is_inlined (container_of c).form v.0 ≡ true
+    → w.at ≡ value_entry bytes (container_of c) k → w.bytes.items ≡ entry (container_of c).form 0 v → ws ≡ w ∷ [] → AreWritesFor bytes (with_value bytes v (container_of c) k) (Some ws)
+made_inlined bytes c k t v w ws h low spelled inside at items all =
+    let d = container_of c in
+    let new : w.bytes.items ≡ code_of v.0 ∷ inlined_bytes d.form v = items ∙ ap (λ b. code_of v.0 ∷ cond b (inlined_bytes d.form v) (low_bytes (word d.form) 0)) inside in
+    let few = narrow d.form t (sym (ap (λ m. is_inlined d.form m.0) (measured-spelling t)) ∙ sym (ap (λ v. is_inlined d.form v.0) spelled) ∙ inside) in
+    let size : length v.1 ≡ (measure t).1 = ap (λ v. length v.1) spelled ∙ size_of t in
+    let long = length-append v.1 (replicate (word d.form - length v.1) (fill v)) in
+    let filled = length-replicate (word d.form - length v.1) (fill v) in
+    let whole = ap length new in
+    let l = lies bytes c k h low in
+    let a = l.entry in
+    let last = h.0.1 in
+    let end = h.0.2 in
+    subst (λ us. AreWritesFor bytes (with_value bytes v d k) (Some us)) (sym all) (record {
+      made = chosen bytes d k v true (nat_le (room_start bytes d k + length v.1) (room_end bytes d k)) inside refl ∙ ap₂ (λ i xs. Some (written bytes i xs)) (sym at) (sym new);
+      inside = (omega (arith, whole, long, filled, few, size, at, a, end, last), tt);
+      rising = (omega arith, tt);
+    })
 
 -- at its place, in two writes
-pub made_outside : (bytes : List ℕ) (c : Container) (k size : ℕ) (t : Tree) (w u : Write) (ws : List Write) → HasValues bytes c → k < count bytes (container_of c) → is_inlined (container_of c).form (measure t).0 ≡ false
-    → size ≡ capped (measure t).1 → length bytes < 2 ^ 63 → min (room_start bytes (container_of c) k + size) (2 ^ 64 - 1) ≤ room_end bytes (container_of c) k
-    → w.at ≡ value_entry bytes (container_of c) k → w.bytes.items ≡ entry (container_of c).form (room_start bytes (container_of c) k - c.at) (spelling t)
-    → u.at ≡ room_start bytes (container_of c) k → u.bytes.items ≡ (spelling t).1 → ws ≡ w ∷ u ∷ [] → IsMade bytes (with_value bytes (spelling t) (container_of c) k) (Some ws)
-made_outside bytes c k size t w u ws h low out sized near fits at items at_value value all =
+pub made_outside : (bytes : List ℕ) (c : Container) (k : ℕ) (v : Spelling) (w u : Write) (ws : List Write) → HasValues bytes c → k < count bytes (container_of c) → is_inlined (container_of c).form v.0 ≡ false
+    → room_start bytes (container_of c) k + length v.1 ≤ room_end bytes (container_of c) k → w.at ≡ value_entry bytes (container_of c) k → w.bytes.items ≡ entry (container_of c).form (room_start bytes (container_of c) k - c.at) v
+    → u.at ≡ room_start bytes (container_of c) k → u.bytes.items ≡ v.1 → ws ≡ w ∷ u ∷ [] → AreWritesFor bytes (with_value bytes v (container_of c) k) (Some ws)
+made_outside bytes c k v w u ws h low out fits at items at_value value all =
     let d = container_of c in
-    let v = spelling t in
     let place = room_start bytes d k in
-    let outside : is_inlined d.form v.0 ≡ false = ap (is_inlined d.form) (kind_of_value t) ∙ out in
-    let new : w.bytes.items ≡ code_of v.0 ∷ low_bytes (word d.form) (place - c.at) = items ∙ ap (λ b. code_of v.0 ∷ cond b (inlined_bytes d.form v) (low_bytes (word d.form) (place - c.at))) outside in
+    let new : w.bytes.items ≡ code_of v.0 ∷ low_bytes (word d.form) (place - c.at) = items ∙ ap (λ b. code_of v.0 ∷ cond b (inlined_bytes d.form v) (low_bytes (word d.form) (place - c.at))) out in
     let wide = length-bytes_low_first 0 (word d.form) (place - c.at) in
     let size_w = ap length new in
     let size_u = ap length value in
-    let size_eq = size_of t in
     let l = lies bytes c k h low in
     let a = l.entry in
     let b = l.top in
     let start = l.start in
     let whole = h.0.2 in
     let last = h.0.1 in
-    let under : place + length v.1 ≤ room_end bytes d k = omega (arith, fits, sized, size_eq, b, last, near) in
-    subst (λ us. IsMade bytes (with_value bytes v d k) (Some us)) (sym all) (
-      ap (λ b. cond b (Some (in_entry bytes d k v)) (cond (nat_le (place + length v.1) (room_end bytes d k)) (Some (at_place bytes d k place v)) None)) outside
-          ∙ ap (λ b. cond b (Some (at_place bytes d k place v)) None) (le-leb _ _ under)
-          ∙ ap₂ (λ i xs. Some (written (written bytes i xs) place v.1)) (sym at) (sym new) ∙ ap₂ (λ i xs. Some (written (written bytes w.at w.bytes.items) i xs)) (sym at_value) (sym value),
-      (omega (arith, size_w, wide, at, a, whole, last), (omega (arith, size_u, at_value, under, b, last), tt)),
-      (omega arith, (omega (arith, size_w, wide, at, a, start, at_value), tt)),
-    )
-
--- ---- removal
+    subst (λ us. AreWritesFor bytes (with_value bytes v d k) (Some us)) (sym all) (record {
+      made = chosen bytes d k v false true out (le-leb _ _ fits)
+          ∙ ap₂ (λ i xs. Some (written (written bytes i xs) place v.1)) (sym at) (sym new) ∙ ap₂ (λ i xs. Some (written (written bytes w.at w.bytes.items) i xs)) (sym at_value) (sym value);
+      inside = (omega (arith, size_w, wide, at, a, whole, last), (omega (arith, size_u, at_value, fits, b, last), tt));
+      rising = (omega arith, (omega (arith, size_w, wide, at, a, start, at_value), tt));
+    })
 
 -- ---- the writes, one after the other
 

@@ -4,7 +4,7 @@ pub mod Writes
 pub mod Spans
 pub mod Touched
 pub mod Led
+pub mod Made
 pub mod Draft
 pub mod Answer
-pub mod Single
 pub mod Removal

@@ -4,7 +4,7 @@ use Rattle.tree_model.specs.Tree.{Tree, Trees, tree_list}
 use Rattle.binary_model.specs.Layout as layout
 use Rattle.binary_model.specs.Layout.{count, end, entries_end, values_floor}
 use Rattle.binary_model.specs.Stands.{IsValue, AreElements}
-use Rattle.json_binary.specs.declared.place.Container.{Container}
+use Rattle.json_binary.specs.declared.cursor.place.Container.{Container}
 use Rattle.json_binary.specs.Place.{container_of, IsFramed}
 
 -- the bytes stand for a tree at the spot

@@ -17,13 +17,26 @@ abbrev pub AreRising : ℕ → List Write → Type 0
 AreRising low [] = Unit {0}
 AreRising low (w ∷ ws) = (low ≤ w.at) × AreRising (w.at + length w.bytes.items) ws
 
+-- a run of one differing place, and a run with the place right behind it
+abbrev pub run_at : ℕ → ℕ → ℕ → Run
+run_at at x y = record { at = at; before = x ∷ []; after = y ∷ [] }
+
+abbrev pub longer : Run → ℕ → ℕ → Run
+longer r x y = record { at = r.at; before = r.before ++ x ∷ []; after = r.after ++ y ∷ [] }
+
 -- a differing place behind runs: the last one grows, where it ends there
 abbrev pub lengthened : ℕ → ℕ → ℕ → List Run → List Run
-lengthened at x y [] = record { at = at; before = x ∷ []; after = y ∷ [] } ∷ []
-lengthened at x y (r ∷ []) = if r.at + length r.before == at then record { at = r.at; before = r.before ++ x ∷ []; after = r.after ++ y ∷ [] } ∷ [] else r ∷ record { at = at; before = x ∷ []; after = y ∷ [] } ∷ []
+lengthened at x y [] = run_at at x y ∷ []
+lengthened at x y (r ∷ []) = if r.at + length r.before == at then longer r x y ∷ [] else r ∷ run_at at x y ∷ []
 lengthened at x y (r ∷ s ∷ rs) = r ∷ lengthened at x y (s ∷ rs)
 
--- these writes, one behind the other, make the wanted bytes, and none are given where none are wanted
-abbrev pub IsMade : List ℕ → Option (List ℕ) → Option (List Write) → Type 0
-IsMade bytes wanted None = wanted ≡ None
-IsMade bytes wanted (Some ws) = (wanted ≡ Some (put_writes ws bytes)) × AreInside (length bytes) ws × AreRising 0 ws
+-- these writes, one behind the other, make the wanted bytes
+pub record AreWrites (bytes : List ℕ) (wanted : Option (List ℕ)) (ws : List Write) : Type 0 where
+  pub made : wanted ≡ Some (put_writes ws bytes)
+  pub inside : AreInside (length bytes) ws
+  pub rising : AreRising 0 ws
+
+-- and none are given where none are wanted
+abbrev pub AreWritesFor : List ℕ → Option (List ℕ) → Option (List Write) → Type 0
+AreWritesFor bytes wanted None = wanted ≡ None
+AreWritesFor bytes wanted (Some ws) = AreWrites bytes wanted ws

@@ -1,24 +1,18 @@
 //! A document's bytes under an edit, while each of its pairs is made in place.
-ghost use Rattle.std.specs.Prelude.{◌≡◌, ◌≤◌, ◌<◌, ◌+◌, ◌++◌, ◌∷◌, ◌||◌, ℕ, Bool, List, [], length, map, IfOk, IfSome, Some, false};
+ghost use Rattle.std.specs.Prelude.{◌≡◌, ◌≤◌, ◌++◌, ◌∷◌, ◌||◌, ℕ, List, [], length, map, IfOk, IfSome, false};
 ghost use Rattle.tree_model.specs.Tree.{Tree};
-ghost use Rattle.binary_model.specs.Layout as layout;
-ghost use Rattle.binary_model.specs.Stands.{Stands};
 ghost use Rattle.binary_model.specs.Change as change;
+ghost use Rattle.binary_model.specs.Canonical.{max_document_bytes};
 ghost use Rattle.json_tree.specs.View.{tree_of};
 ghost use Rattle.json_edit.specs.Edits.{assigned};
-ghost use Rattle.json_binary.specs.Place.{container_of};
 ghost use Rattle.json_binary.specs.Usage.{IsDocument};
-ghost use Rattle.json_patch.specs.Stand.{HasValues};
 ghost use Rattle.json_patch.specs.Writes.{put_writes, AreInside};
-ghost use Rattle.json_patch.specs.Draft.{StandAt, IsDraft, IsPut, IsNoted, LeadsInto, act_by, edit_by, in_place};
+ghost use Rattle.json_patch.specs.Made.{HasTree, act_by, edit_by, in_place};
+ghost use Rattle.json_patch.specs.Draft.{IsDraft, IsPairPut, IsNoted, IsDraftOf};
 
-use crate::place::{Place, adds, place_from};
-use crate::single::nests_over;
+use crate::pair::{Made, make_pair, nests_over};
 use crate::spans::Span;
-use crate::trail::positions_from;
-use crate::trees::visit;
-use crate::writes::{Write, replacing, write_all};
-use json_binary::{Container, child, equals, root};
+use crate::writes::{Write, write_all};
 use json_edit::Pair;
 use std::alloc::{AllocError, Global};
 
@@ -36,16 +30,15 @@ pub struct Draft {
 
 /// Makes pairs in place, from left to right; none, where one of them can't be. A pair whose path
 /// finds nothing adds its value only where `adding`, and what is added has no place yet.
-pub fn put_all(
+pub fn put_pairs(
     alloc: Global,
     bytes: &[u8],
     pairs: &[Pair],
     adding: bool,
 ) -> Result<Option<Draft>, AllocError>
     requires document { IsDocument bytes.now }
-    requires small { length bytes.now ≤ 16777216 }
-    ensures put { IfOk result (λ found. (t : Tree) → Stands bytes.now t →
-        IsPut t (change.progress (edit_by adding (map assigned pairs.now)) (in_place bytes.now t)) found) }
+    requires small { length bytes.now ≤ max_document_bytes }
+    ensures put { IfOk result (IsDraftOf bytes.now (edit_by adding (map assigned pairs.now))) }
     ensures noted { IfOk result (λ found. IfSome found (IsNoted bytes.now)) }
 {
     let mut draft = start(alloc, bytes)?;
@@ -78,66 +71,19 @@ fn put_pair(
     pair: &Pair,
     adding: bool,
 ) -> Result<Option<Draft>, AllocError>
-    requires { (u : Tree) × StandAt draft.bytes.items u }
+    requires { HasTree draft.bytes.items }
     ensures put { IfOk result (λ found. (t u : Tree) → IsDraft t draft u →
-        IsPut t (change.replaced_by (act_by adding) pair.now.path (tree_of pair.now.value) (in_place draft.bytes.items u)) found) }
+        IsPairPut t (change.replaced_by (act_by adding) pair.now.path (tree_of pair.now.value) (in_place draft.bytes.items u)) found) }
     ensures noted { IfOk result (λ found. (old : List ℕ) → IsNoted old draft → IfSome found (IsNoted old)) }
 {
-    let spot = root(&draft.bytes);
-    let legs = pair.path.legs();
-    match place_from(&draft.bytes, spot, Place::Root, legs) {
-        Some(Place::Inside(container, k)) => {
-            let found = replace_inside(alloc, draft, container, k, pair)?;
-            Ok(found)
-        }
-        Some(Place::Root) => {
-            if equals(&draft.bytes, spot, &pair.value) {
-                return Ok(Some(draft));
-            }
-            Ok(None)
-        }
-        None => {
-            if adding && adds(&draft.bytes, spot, legs) {
-                return Ok(None);
-            }
-            Ok(Some(draft))
+    match make_pair(alloc, &draft.bytes, pair, adding)? {
+        Made::Kept => Ok(Some(draft)),
+        Made::Anew => Ok(None),
+        Made::Written(place, writes) => {
+            let touched = touch(draft, place, &writes, nests_over(pair))?;
+            Ok(Some(touched))
         }
     }
-}
-
-// The pair's value in the place of a container's k-th one, which its path leads to.
-fn replace_inside(
-    alloc: Global,
-    draft: Draft,
-    container: Container,
-    k: usize,
-    pair: &Pair,
-) -> Result<Option<Draft>, AllocError>
-    requires some { (u : Tree) × StandAt draft.bytes.items u }
-    requires stands { HasValues draft.bytes.items container }
-    requires inside { k < layout.count draft.bytes.items (container_of container) }
-    ensures put { IfOk result (λ found. (t u : Tree) (adding : Bool) → IsDraft t draft u →
-        LeadsInto draft.bytes.items pair.now.path u container k →
-        IsPut t (change.replaced_by (act_by adding) pair.now.path (tree_of pair.now.value) (in_place draft.bytes.items u)) found) }
-    ensures noted { IfOk result (λ found. (old : List ℕ) → IsNoted old draft → IfSome found (IsNoted old)) }
-{
-    let Some(spot) = child(&draft.bytes, container, k) else {
-        return Ok(None);
-    };
-    if equals(&draft.bytes, spot, &pair.value) {
-        return Ok(Some(draft));
-    }
-    let Some(writes) = replacing(alloc, &draft.bytes, container, k, &pair.value)? else {
-        return Ok(None);
-    };
-    let top = root(&draft.bytes);
-    let Some(place) = positions_from(alloc, &draft.bytes, top, pair.path.legs(), Vec::new(alloc))?
-    else {
-        return Ok(None);
-    };
-    visit(&pair.value);
-    let touched = touch(draft, place, &writes, nests_over(pair))?;
-    Ok(Some(touched))
 }
 
 // The draft with writes made, at a place that is touched by them.

@@ -3,19 +3,17 @@
 
 mod draft;
 mod error;
+mod lead;
+mod pair;
 mod parts;
-mod place;
 mod planning;
 mod removal;
 mod restored;
 mod room;
-mod single;
 mod spans;
 #[cfg(test)]
 mod tests;
 mod touched;
-mod trail;
-mod trees;
 mod writes;
 
 pub use error::PlanError;

@@ -1,6 +1,7 @@
 //! Runs of places at which two versions of a document differ, made and taken back.
 ghost use Rattle.std.specs.Prelude.{◌≡◌, ◌<◌, ◌≤◌, ◌+◌, ◌∷◌, ◌++◌, ◌==◌, ℕ, List, [], length, map, IfOk, OnOk};
 ghost use Rattle.binary_model.specs.Change.{put_all, put_back, runs, written, differing};
+ghost use Rattle.binary_model.specs.Canonical.{max_document_bytes};
 ghost use Rattle.json_patch.specs.View.{run_of, runs_of, AreWithin};
 
 use smallvec::SmallVec;
@@ -28,7 +29,7 @@ impl Patch {
         before: u8,
         after: u8,
     ) -> Result<Self, AllocError>
-        requires small { at ≤ 16777216 }
+        requires small { at ≤ max_document_bytes }
         ensures { IfOk result (λ p. run_of p ≡ record { at = at; before = before ∷ []; after = after ∷ [] }) }
     {
         Ok(Patch {
@@ -41,7 +42,7 @@ impl Patch {
     /// Whether its bytes before the change end at a place.
     #[tactic(auto, using(crate::proofs::TouchLemmas::ends_capped))]
     pub(crate) fn ends_at(&self, place: usize) -> bool
-        requires small { place ≤ 16777216 }
+        requires small { place ≤ max_document_bytes }
         ensures { result ≡ (self.now.at + length self.now.before.items == place) }
     {
         (self.at as usize).saturating_add(self.before.len()) == place
@@ -79,7 +80,7 @@ impl Parts {
 
     /// How many places differ.
     pub fn places(&self) -> u32
-        requires { differing (runs_of self.now) ≤ 16777216 }
+        requires { differing (runs_of self.now) ≤ max_document_bytes }
         ensures { result ≡ differing (runs_of self.now) }
     {
         let mut places = 0u32;

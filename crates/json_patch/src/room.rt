@@ -14,7 +14,7 @@ pub fn room_start(bytes: &[u8], container: Container, k: usize) -> usize
     ensures { result ≡ change.room_start bytes.now (container_of container) k }
 {
     let spot = container.child(bytes, k);
-    if container.inlines(bytes, spot.tag) {
+    if container.inlines(bytes, spot.type_at) {
         end_before(bytes, container, k)
     } else {
         spot.at
@@ -31,7 +31,7 @@ pub fn room_end(bytes: &[u8], container: Container, k: usize) -> usize
     let mut next = k + 1;
     while next < count {
         let spot = container.child(bytes, next);
-        if !container.inlines(bytes, spot.tag) {
+        if !container.inlines(bytes, spot.type_at) {
             return spot.at;
         }
         next += 1;
@@ -48,7 +48,7 @@ fn end_before(bytes: &[u8], container: Container, k: usize) -> usize
     let mut before = k;
     while before > 0 {
         let spot = container.child(bytes, before - 1);
-        if !container.inlines(bytes, spot.tag) {
+        if !container.inlines(bytes, spot.type_at) {
             return value_end(bytes, spot);
         }
         before -= 1;
@@ -62,7 +62,7 @@ fn value_end(bytes: &[u8], spot: Spot) -> usize
     requires inside { IsInside bytes.now spot }
     ensures { result ≡ layout.value_end bytes.now (spot_of spot) }
 {
-    match Kind::of(bytes[spot.tag]) {
+    match Kind::of(bytes[spot.type_at]) {
         Some(Kind::Literal) => spot.at + 1,
         Some(Kind::Signed(width)) => spot.at + width.bytes(),
         Some(Kind::Unsigned(width)) => spot.at + width.bytes(),

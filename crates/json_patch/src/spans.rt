@@ -2,6 +2,7 @@
 ghost use Rattle.std.specs.Prelude.{◌≡◌, ◌≤◌, length, IfOk};
 ghost use Rattle.std.specs.List.Sorted.{IsNonDecreasingBy};
 ghost use Rattle.binary_model.specs.Change.{runs};
+ghost use Rattle.binary_model.specs.Canonical.{max_document_bytes};
 ghost use Rattle.json_patch.specs.View.{runs_of};
 ghost use Rattle.json_patch.specs.Spans.{DifferInSpans};
 
@@ -24,7 +25,7 @@ pub fn runs_in_spans(
     new: &[u8],
     spans: Vec<Span>,
 ) -> Result<Parts, AllocError>
-    requires small { length old.now ≤ 16777216 }
+    requires small { length old.now ≤ max_document_bytes }
     requires within { DifferInSpans old.now new.now spans.items }
     ensures { IfOk result (λ parts. runs_of parts ≡ runs old.now new.now) }
 {
@@ -35,7 +36,7 @@ pub fn runs_in_spans(
 
 // The same, where the spans rise.
 fn runs_in_order(alloc: Global, old: &[u8], new: &[u8], spans: &[Span]) -> Result<Parts, AllocError>
-    requires small { length old.now ≤ 16777216 }
+    requires small { length old.now ≤ max_document_bytes }
     requires rising { IsNonDecreasingBy (λ s. s.at) spans.now }
     requires within { DifferInSpans old.now new.now spans.now }
     ensures { IfOk result (λ parts. runs_of parts ≡ runs old.now new.now) }

@@ -1,6 +1,7 @@
 //! The runs of places that writes change, without the document that they make.
 ghost use Rattle.std.specs.Prelude.{◌≡◌, ◌≤◌, ◌+◌, ℕ, List, length, map, drop, IfOk, OnOk};
 ghost use Rattle.binary_model.specs.Change.{runs, written};
+ghost use Rattle.binary_model.specs.Canonical.{max_document_bytes};
 ghost use Rattle.json_patch.specs.View.{run_of, runs_of};
 ghost use Rattle.json_patch.specs.Writes.{put_writes, AreInside, AreRising, lengthened};
 
@@ -14,7 +15,7 @@ use std::alloc::{AllocError, Global};
 pub fn runs_of_writes(alloc: Global, bytes: &[u8], writes: &[Write]) -> Result<Parts, AllocError>
     requires inside { AreInside (length bytes.now) writes.now }
     requires rising { AreRising 0 writes.now }
-    requires small { length bytes.now ≤ 16777216 }
+    requires small { length bytes.now ≤ max_document_bytes }
     ensures { IfOk result (λ parts. runs_of parts ≡ runs bytes.now (put_writes writes.now bytes.now)) }
 {
     let mut patches = Vec::new(alloc);
@@ -34,7 +35,7 @@ pub fn add_bytes(
     patches: &mut Vec<Patch>,
 ) -> Result<(), AllocError>
     requires inside { at + length after.now ≤ length bytes.now }
-    requires small { length bytes.now ≤ 16777216 }
+    requires small { length bytes.now ≤ max_document_bytes }
     ensures { OnOk result ((new : List ℕ) → length new ≡ length bytes.now →
         drop at new ≡ drop at bytes.now →
         map run_of patches.old.items ≡ runs bytes.now new →
@@ -58,7 +59,7 @@ fn add_place(
     after: u8,
     patches: &mut Vec<Patch>,
 ) -> Result<(), AllocError>
-    requires small { at ≤ 16777216 }
+    requires small { at ≤ max_document_bytes }
     ensures { OnOk result (map run_of patches.new.items ≡ lengthened at before after (map run_of patches.old.items)) }
 {
     match patches.last_mut() {

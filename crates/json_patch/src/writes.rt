@@ -1,20 +1,21 @@
 //! An edit in place, as writes into the document's bytes.
-ghost use Rattle.std.specs.Prelude.{◌≡◌, ◌≤◌, ◌<◌, ◌+◌, ◌-◌, ◌^◌, min, ◌++◌, ◌∷◌, ℕ, List, [], true, false, length, IfOk, OnOk, Some, option_map};
+ghost use Rattle.std.specs.Prelude.{◌≡◌, ◌≤◌, ◌<◌, ◌+◌, ◌++◌, ◌∷◌, ℕ, List, [], length, IfOk, IfSome, OnOk, Some, option_map};
+ghost use Rattle.tree_model.specs.Tree.{Tree, IsTree};
 ghost use Rattle.binary_model.specs.Layout as layout;
 ghost use Rattle.binary_model.specs.Change as change;
 ghost use Rattle.binary_model.specs.Canonical as canonical;
+ghost use Rattle.binary_model.specs.Canonical.{max_document_bytes};
 ghost use Rattle.json_tree.specs.View.{tree_of};
-ghost use Rattle.json_binary.specs.View.{form_of, kind_of};
-ghost use Rattle.json_binary.specs.Sizes.{IsMeasured};
+ghost use Rattle.json_binary.specs.Writing.{spelling_of};
 ghost use Rattle.json_binary.specs.Place.{container_of, IsFramed};
 ghost use Rattle.json_patch.specs.Stand.{HasValues};
-ghost use Rattle.json_patch.specs.Writes.{put_writes, AreInside, IsMade};
+ghost use Rattle.json_patch.specs.Writes.{put_writes, AreInside, AreWritesFor};
 ghost use Rattle.json_patch.specs.Spans.{DifferInSpans};
 
 use crate::parts::put;
 use crate::room::{room_end, room_start};
 use crate::spans::Span;
-use json_binary::{Container, Measured, encode, measure, push_entry, push_word};
+use json_binary::{Container, EncodeError, Spelled, entry_bytes, push_word, value_bytes};
 use json_tree::Json;
 use std::alloc::{AllocError, Global};
 
@@ -54,87 +55,55 @@ pub fn replacing(
 ) -> Result<Option<Vec<Write>>, AllocError>
     requires stands { HasValues bytes.now container }
     requires inside { k < layout.count bytes.now (container_of container) }
-    requires near { length bytes.now < 2 ^ 63 }
-    ensures { IfOk result (λ found. IsMade bytes.now
+    requires small { length bytes.now ≤ max_document_bytes }
+    ensures writes { IfOk result (λ found. AreWritesFor bytes.now
         (change.with_value bytes.now (canonical.spelling (tree_of value.now)) (container_of container) k)
         (option_map (λ ws. ws.items) found)) }
+    // What the value's types keep.
+    ensures is_tree { IfOk result (λ found. IfSome found (λ ws. IsTree (tree_of value.now))) }
 {
-    let mut plan = Vec::new(alloc);
-    let measured = measure(value, &mut plan)?;
-    if measured.kind.is_inlined(container.form) {
-        let writes = inlined(alloc, bytes, container, k, value, measured)?;
+    match value_bytes(alloc, value) {
+        Ok(spelled) => replacing_by(alloc, bytes, container, k, spelled),
+        Err(EncodeError::Large) => Ok(None),
+        Err(EncodeError::Memory) => Err(AllocError),
+    }
+}
+
+// The same, for a value that is spelled: in its entry, or at a place with its offset in the entry.
+fn replacing_by(
+    alloc: Global,
+    bytes: &[u8],
+    container: Container,
+    k: usize,
+    value: Spelled,
+) -> Result<Option<Vec<Write>>, AllocError>
+    requires stands { HasValues bytes.now container }
+    requires inside { k < layout.count bytes.now (container_of container) }
+    requires small { length bytes.now ≤ max_document_bytes }
+    requires spelled { (t : Tree) × (spelling_of value ≡ canonical.spelling t) }
+    requires short { length value.bytes.items < max_document_bytes }
+    ensures { IfOk result (λ found. AreWritesFor bytes.now
+        (change.with_value bytes.now (spelling_of value) (container_of container) k)
+        (option_map (λ ws. ws.items) found)) }
+{
+    let at = container.value_entry(bytes, k);
+    if value.kind.is_inlined(container.form) {
+        let bytes = entry_bytes(alloc, &value, container.form, 0)?;
+        let writes = one_write(alloc, Write { at, bytes })?;
         return Ok(Some(writes));
     }
     let start = room_start(bytes, container, k);
-    if room_end(bytes, container, k) < start.saturating_add(measured.size) {
+    if room_end(bytes, container, k) < start.saturating_add(value.bytes.len()) {
         return Ok(None);
     }
-    let writes = outside(alloc, bytes, container, k, value, measured)?;
+    let entry = entry_bytes(alloc, &value, container.form, start - container.at)?;
+    let first = Write { at, bytes: entry };
+    let second = Write {
+        at: start,
+        bytes: value.bytes,
+    };
+    let writes = two_writes(alloc, first, second)?;
     Ok(Some(writes))
-}
-
-// A value written in its entry.
-fn inlined(
-    alloc: Global,
-    bytes: &[u8],
-    container: Container,
-    k: usize,
-    value: &Json,
-    measured: Measured,
-) -> Result<Vec<Write>, AllocError>
-    requires stands { HasValues bytes.now container }
-    requires inside { k < layout.count bytes.now (container_of container) }
-    requires measured { IsMeasured (tree_of value.now) measured }
-    requires inlined { layout.is_inlined (form_of container.form) (kind_of measured.kind) ≡ true }
-    ensures { IfOk result (λ ws. IsMade bytes.now
-        (change.with_value bytes.now (canonical.spelling (tree_of value.now)) (container_of container) k)
-        (Some ws.items)) }
-{
-    let mut entry = Vec::new(alloc);
-    push_entry(value, measured, container.form, 0, &mut entry)?;
-    let at = container.value_entry(bytes, k);
-    one_write(alloc, Write { at, bytes: entry })
-}
-
-// A value written at its place, and its offset in the entry.
-fn outside(
-    alloc: Global,
-    bytes: &[u8],
-    container: Container,
-    k: usize,
-    value: &Json,
-    measured: Measured,
-) -> Result<Vec<Write>, AllocError>
-    requires stands { HasValues bytes.now container }
-    requires inside { k < layout.count bytes.now (container_of container) }
-    requires near { length bytes.now < 2 ^ 63 }
-    requires measured { IsMeasured (tree_of value.now) measured }
-    requires outside { layout.is_inlined (form_of container.form) (kind_of measured.kind) ≡ false }
-    requires fits { min (change.room_start bytes.now (container_of container) k + measured.size) (2 ^ 64 - 1)
-        ≤ change.room_end bytes.now (container_of container) k }
-    ensures { IfOk result (λ ws. IsMade bytes.now
-        (change.with_value bytes.now (canonical.spelling (tree_of value.now)) (container_of container) k)
-        (Some ws.items)) }
-{
-    let start = room_start(bytes, container, k);
-    let mut entry = Vec::new(alloc);
-    push_entry(
-        value,
-        measured,
-        container.form,
-        start - container.at,
-        &mut entry,
-    )?;
-    let value = value_bytes(alloc, value)?;
-    let at = container.value_entry(bytes, k);
-    two_writes(
-        alloc,
-        Write { at, bytes: entry },
-        Write {
-            at: start,
-            bytes: value,
-        },
-    )
 }
 
 fn one_write(alloc: Global, first: Write) -> Result<Vec<Write>, AllocError>
@@ -154,18 +123,6 @@ fn two_writes(alloc: Global, first: Write, second: Write) -> Result<Vec<Write>, 
     Ok(writes)
 }
 
-// A value's bytes in its canonical encoding, without the type byte.
-fn value_bytes(alloc: Global, value: &Json) -> Result<Vec<u8>, AllocError>
-    ensures { IfOk result (λ out. out.items ≡ (canonical.spelling (tree_of value.now)).1) }
-{
-    let mut out = Vec::new(alloc);
-    if encode(value, &mut out).is_err() {
-        return Err(AllocError);
-    }
-    out.remove(0);
-    Ok(out)
-}
-
 /// The writes that remove a container's k-th value: one less is counted, and the entries move together.
 pub fn removing(
     alloc: Global,
@@ -175,7 +132,7 @@ pub fn removing(
 ) -> Result<Vec<Write>, AllocError>
     requires stands { HasValues bytes.now container }
     requires inside { k < layout.count bytes.now (container_of container) }
-    ensures { IfOk result (λ ws. IsMade bytes.now
+    ensures { IfOk result (λ ws. AreWritesFor bytes.now
         (change.without_value bytes.now (container_of container) k) (Some ws.items)) }
 {
     let mut less = Vec::new(alloc);
@@ -207,7 +164,7 @@ fn other_entries(
     let form = container.form;
     let mut entries = Vec::new(alloc);
     let values_at = container.value_entry(bytes, 0);
-    if container.keyed {
+    if container.is_object {
         let key = container.key_entry(bytes, k);
         entries.extend_from_slice(&bytes[container.header_end(bytes)..key])?;
         entries.extend_from_slice(&bytes[key + form.key_width()..values_at])?;

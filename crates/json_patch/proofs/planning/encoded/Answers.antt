@@ -1,8 +1,8 @@
 use Rattle.std.proofs.Common.{◌≡◌, ◌≤◌, ◌++◌, length, sym, ap, subst, ◌∙◌, arith}
 use Rattle.binary_model.specs.Stands.{Stands}
 use Rattle.binary_model.specs.Canonical.{canonical, canonical_length}
-use Rattle.binary_model.proofs.LengthLemmas.{measured_length}
-use Rattle.binary_model.proofs.RoundLemmas.{canonical_stands}
+use Rattle.binary_model.proofs.canonical.LengthLemmas.{measured_length}
+use Rattle.binary_model.proofs.canonical.RoundLemmas.{canonical_stands}
 use Rattle.json_tree.specs.View.{tree_of}
 use Rattle.json_patch.proofs.planning.encoded.Goals as goal
 

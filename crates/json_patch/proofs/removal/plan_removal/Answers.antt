@@ -1,42 +1,32 @@
-use Rattle.std.proofs.Common.{◌≡◌, Some, None, map, sym, ap, subst, ◌∙◌}
-use Rattle.tree_model.specs.Edit.{try_remove}
-use Rattle.binary_model.specs.Layout as layout
-use Rattle.binary_model.specs.Stands.{IsValue}
+use Rattle.std.proofs.Common.{[], ◌∷◌, ◌∙◌, refl, ap, subst, option_map, rules}
+use Rattle.tree_model.specs.Edit as model
+use Rattle.binary_model.specs.Stands.{IsBytes}
 use Rattle.binary_model.specs.Change.{runs}
-use Rattle.json_path.specs.View.{leg_of}
-use Rattle.json_binary.specs.Place.{spot_of}
-use Rattle.json_patch.specs.Led.{IsTaken}
+use Rattle.json_patch.specs.Made.{Takes}
 use Rattle.json_patch.specs.Writes.{put_writes}
-use Rattle.json_patch.proofs.RemovalLemmas.{none_taken, taken_stands, kept_plan, removed_plan}
+use Rattle.json_patch.proofs.PlanLemmas.{stands_for, same_plan, parts_plan}
+use Rattle.json_patch.proofs.RemovalLemmas.{kept_step, taken_step, leads_back, leads_on}
 use Rattle.json_patch.proofs.removal.plan_removal.Goals as goal
 
-pub removing-requires-clause-stands : goal.removing-requires-clause-stands
-removing-requires-clause-stands c =
-    let bytes = c.args.bytes.now in
-    let (t, stands) = c.requires.document in
-    let taken = c.taken_from.ensures t stands.«tree» (subst (IsValue bytes t) (sym c.root.ensures.place) stands.value) in
-    (taken_stands bytes t (spot_of c.root.result) (map leg_of c.legs.result.now) c.taken_from.result c.in-Some.container c.in-Some.k c.in-Some.is taken).0
-
-pub returns-in_default-clause-plan : goal.returns-in_default-clause-plan
-returns-in_default-clause-plan c =
+pub returns-in_ok-runs_of_writes-in-Some : goal.returns-in_ok-runs_of_writes-in-Some
+returns-in_ok-runs_of_writes-in-Some c =
     let bytes = c.args.bytes.now in
     let path = c.args.path.now in
-    λ t stands.
-    let taken = c.taken_from.ensures t stands.«tree» (subst (IsValue bytes t) (sym c.root.ensures.place) stands.value) in
-    let found = none_taken bytes t (spot_of c.root.result) (map leg_of c.legs.result.now) c.taken_from.result c.in_default.not-Some taken in
-    kept_plan bytes t path (subst (λ ls. try_remove ls t ≡ None) c.legs.ensures.legs found)
+    let ws = c.in-Some.writes.items in
+    let new = put_writes ws bytes in
+    let octets : IsBytes bytes = search rules in
+    let parts_are = c.in_ok-runs_of_writes-in-Some.ensures ∙ ap (λ ws. runs bytes (put_writes ws bytes)) c.deref.ensures.value in
+    parts_plan bytes (model.Remove (path ∷ [])) c.in_ok-runs_of_writes-in-Some.field-0 (λ t s.
+    let h = stands_for bytes t octets c.requires.small s in
+    let out = subst (λ f. Takes bytes t path (option_map (λ ws. ws.items) f)) c.in-Some.is (c.in_ok-writes.ensures t h) in
+    leads_on bytes new t (path ∷ []) c.in_ok-runs_of_writes-in-Some.field-0 s (taken_step bytes new t path ws h out refl) parts_are)
 
-pub returns-clause-plan : goal.returns-clause-plan
-returns-clause-plan c =
+pub returns-in-None : goal.returns-in-None
+returns-in-None c =
     let bytes = c.args.bytes.now in
     let path = c.args.path.now in
-    let box = c.in-Some.container in
-    let k = c.in-Some.k in
-    λ t stands.
-    let taken = c.taken_from.ensures t stands.«tree» (subst (IsValue bytes t) (sym c.root.ensures.place) stands.value) in
-    let found = subst (λ f. IsTaken bytes (spot_of c.root.result) t (map leg_of c.legs.result.now) f) c.in-Some.is taken in
-    let at_root = subst (λ s. IsTaken bytes s t (map leg_of c.legs.result.now) (Some (box, k))) c.root.ensures.place found in
-    let by_path = subst (λ ls. IsTaken bytes (layout.root bytes) t ls (Some (box, k))) c.legs.ensures.legs at_root in
-    let made = c.in_ok-writes.ensures in
-    removed_plan bytes t path box k (put_writes c.in_ok-writes.writes.items bytes) c.in_ok-runs_of_writes.field-0 stands by_path made.0
-    (c.in_ok-runs_of_writes.ensures ∙ ap (λ ws. runs bytes (put_writes ws bytes)) c.deref.ensures.value)
+    let octets : IsBytes bytes = search rules in
+    same_plan bytes (model.Remove (path ∷ [])) (λ t s.
+    let h = stands_for bytes t octets c.requires.small s in
+    let none = subst (λ f. Takes bytes t path (option_map (λ ws. ws.items) f)) c.in-None.is (c.in_ok-writes.ensures t h) in
+    leads_back bytes bytes t (path ∷ []) (kept_step bytes t path h none))

@@ -16,11 +16,11 @@ value_end-requires-clause-inside c =
 
 pub returns-then-not-inlines : goal.returns-then-not-inlines
 returns-then-not-inlines c =
-    let out : layout.is_inlined (form_of c.args.container.form) (layout.kind_at c.args.bytes.now c.child-spot.result.tag) ≡ false = sym c.inlines.ensures ∙ search rules in
+    let out : layout.is_inlined (form_of c.args.container.form) (layout.kind_at c.args.bytes.now c.child-spot.result.type_at) ≡ false = sym c.inlines.ensures ∙ search rules in
     c.value_end.ensures ∙ back_to c.args.bytes.now c.args.container c.args.k c.loop-before.before c.child-spot.result c.loop-before-test.true c.child-spot.ensures out c.loop-before.invariant.1
 
 pub loop-before-preserved : goal.loop-before-preserved
 loop-before-preserved c =
-    let inl : layout.is_inlined (form_of c.args.container.form) (layout.kind_at c.args.bytes.now c.child-spot.result.tag) ≡ true = sym c.inlines.ensures ∙ search rules in
+    let inl : layout.is_inlined (form_of c.args.container.form) (layout.kind_at c.args.bytes.now c.child-spot.result.type_at) ≡ true = sym c.inlines.ensures ∙ search rules in
     let low = c.loop-before.invariant.0 in
     (omega (arith, low), back_over c.args.bytes.now c.args.container c.args.k c.loop-before.before c.child-spot.result c.loop-before-test.true c.child-spot.ensures inl c.loop-before.invariant.1)

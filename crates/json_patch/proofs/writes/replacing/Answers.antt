@@ -1,17 +1,16 @@
-use Rattle.std.proofs.Common.{◌∙◌, sym, ap, arith}
-use Rattle.binary_model.specs.Layout.{is_inlined}
+use Rattle.std.proofs.Common.{◌≡◌, length, Err, ap, ◌∙◌, arith}
+use Rattle.binary_model.specs.Canonical.{measure}
 use Rattle.json_tree.specs.View.{tree_of}
-use Rattle.json_binary.specs.View.{form_of}
-use Rattle.json_binary.specs.Place.{container_of}
-use Rattle.json_patch.proofs.WriteLemmas.{too_long}
+use Rattle.json_patch.proofs.WriteLemmas.{size_of, too_large}
 use Rattle.json_patch.proofs.writes.replacing.Goals as goal
 
-pub returns-then-room_end-saturating_add : goal.returns-then-room_end-saturating_add
-returns-then-room_end-saturating_add c =
-    let m = c.in_ok-measured.ensures.measured in
-    let out = sym (ap (is_inlined (form_of c.args.container.form)) m.kind) ∙ sym c.is_inlined.ensures ∙ c.if-is_inlined.false in
-    let a = c.if-room_end-saturating_add.true in
-    let b = c.room_end.ensures in
-    let d = c.saturating_add.ensures in
-    let e = c.room_start-start.ensures in
-    too_long c.args.bytes.now (container_of c.args.container) c.args.k c.in_ok-measured.measured.size (tree_of c.args.value.now) out m.size (omega (arith, a, b, d, e))
+pub replacing_by-requires-clause-short : goal.replacing_by-requires-clause-short
+replacing_by-requires-clause-short c =
+    let t = tree_of c.args.value.now in
+    let size : length c.in-Ok.spelled.bytes.items ≡ (measure t).1 = ap (λ v. length v.1) c.in-Ok.ensures.ok ∙ size_of t in
+    let fits = c.in-Ok.ensures.fits in
+    omega (arith, size, fits)
+
+pub returns-in-Err-Large-clause-writes : goal.returns-in-Err-Large-clause-writes
+returns-in-Err-Large-clause-writes c =
+    too_large c.args.bytes.now c.args.container c.args.k (tree_of c.args.value.now) c.requires.stands c.requires.inside c.requires.small (c.in-Err-Large.ensures.large (ap Err c.in-Err-Large.field-0-is))

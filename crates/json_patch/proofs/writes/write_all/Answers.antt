@@ -1,6 +1,6 @@
 use Rattle.std.proofs.Common.{◌≡◌, ◌+◌, ◌++◌, ◌∷◌, [], length, sym, ap, subst, ◌∙◌}
 use Rattle.binary_model.specs.Change.{written}
-use Rattle.binary_model.proofs.WrittenLemmas.{written_length}
+use Rattle.binary_model.proofs.in_place.WrittenLemmas.{written_length}
 use Rattle.json_patch.specs.Writes.{put_writes, AreInside}
 use Rattle.json_patch.specs.Spans.{DifferInSpans}
 use Rattle.json_patch.proofs.WriteLemmas.{left_writes}

@@ -1,5 +1,0 @@
-use Rattle.std.proofs.Common.{length}
-use Rattle.json_patch.proofs.place.+taken_from.Given as goal
-
-abbrev pub decreases-taken_from : goal.decreases-taken_from
-decreases-taken_from l = length l.legs.now
