@@ -1,0 +1,4 @@
+pub mod DecideLemmas
+pub mod ToldLemmas
+pub mod CutLemmas
+pub mod RunLemmas

@@ -1,0 +1,24 @@
+use Rattle.std.proofs.Common.{refl}
+use Rattle.std.specs.Fmt.{digits}
+use Rattle.std.specs.Str.{is_utf8, chars}
+use Rattle.json.specs.Print.{escape_byte}
+use Rattle.binary_model.proofs.OnLiterals.{binary_on_literals}
+use Rattle.serde_json.proofs.OnLiterals.{serde_json_on_literals}
+use Rattle.journal_model.specs.Locks.{sessions}
+use Rattle.journal_model.specs.Part.{next_part}
+use Rattle.journal_model.specs.Journal.{new_store, full, part, Did}
+use Rattle.journal_rows.specs.ChangeRuns.{shorter_text}
+use Rattle.journal_rows.proofs.RunLemmas.{runs, refused}
+use Rattle.journal_rows.proofs.changes.row_shorter_text.Goals as goal
+
+pub returns-clause-runs : goal.returns-clause-runs
+unfolding binary_on_literals serde_json_on_literals digits sessions next_part is_utf8 chars escape_byte
+returns-clause-runs c = runs (new_store 4096) shorter_text refl refl
+
+pub returns-clause-in_place : goal.returns-clause-in_place
+unfolding binary_on_literals serde_json_on_literals digits sessions next_part is_utf8 chars escape_byte
+returns-clause-in_place c = refused (new_store 4096) shorter_text 19 (Did 1 6 (part 6)) refl
+
+pub returns-clause-rewritten : goal.returns-clause-rewritten
+unfolding binary_on_literals serde_json_on_literals digits sessions next_part is_utf8 chars escape_byte
+returns-clause-rewritten c = refused (new_store 4096) shorter_text 4 (Did 1 2 full) refl

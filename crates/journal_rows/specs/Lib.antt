@@ -1,0 +1,12 @@
+pub mod Told
+pub mod Cuts
+pub mod Runs
+pub mod ChangeRuns
+pub mod PieceRuns
+pub mod ViewRuns
+pub mod LockRuns
+pub mod EndRuns
+pub mod SpaceRuns
+pub mod MixedRuns
+pub mod OpenedRuns
+pub mod UnpurgedRuns
