@@ -7,17 +7,17 @@ use Rattle.binary_model.specs.Stands.{Stands}
 use Rattle.binary_model.specs.Canonical.{canonical, canonical_length}
 use Rattle.binary_model.specs.Change as bytes
 use Rattle.binary_model.specs.Change.{Run, Progress, progress, finished, runs, differing, put_all, stored}
-use Rattle.binary_model.proofs.LengthLemmas.{measured_length}
-use Rattle.binary_model.proofs.ChangeLemmas.{same_edits}
+use Rattle.binary_model.proofs.canonical.LengthLemmas.{measured_length}
+use Rattle.binary_model.proofs.in_place.ChangeLemmas.{same_edits}
 use Rattle.json_patch.specs.View.{runs_of}
-use Rattle.json_patch.specs.Answer.{IsStored as IsPlanned, IsRefused}
+use Rattle.json_patch.specs.Answer.{IsPlanFor, IsPlanRefused}
 use Rattle.json_patch.specs.declared.parts.Parts.{Parts}
 use Rattle.json_patch.specs.declared.planning.Planned.TheVariants as planned
 use Rattle.json_patch.specs.declared.error.PlanError.TheVariants.{Deep, Large}
 use Rattle.json_patch.proofs.SingleLemmas.{few_places}
 use Rattle.journal_model.specs.Documents.{Docs, look, with_doc, Change, Kept, keep}
 use Rattle.journal_model.specs.Journal.{Reply, same, deep, large, full, part}
-use Rattle.journal_model.specs.Legal.{reply_to, changed_reply, is_too_deep, is_too_large}
+use Rattle.journal_model.specs.Replies.{reply_to, changed_reply, is_too_deep, is_too_large}
 use Rattle.lob_store.specs.Documents.{tree_in, kept_of}
 use Rattle.lob_store.proofs.DocumentLemmas.{stored_tree}
 
@@ -81,7 +81,7 @@ small_so new h = grind (arith, h)
 large_so : (new : List ℕ) → 16777216 < length new → is_too_large new ≡ true
 large_so new h = grind (arith, h)
 
-pub same_reply : (c : bytes.Change) (t : Tree) (nested size : ℕ) → IsPlanned c nested size planned.Same → changed_reply t c ≡ same
+pub same_reply : (c : bytes.Change) (t : Tree) (nested size : ℕ) → IsPlanFor c nested size planned.Same → changed_reply t c ≡ same
 same_reply bytes.Same t nested size h = refl
 same_reply (bytes.Parts rs) t nested size h = absurd h
 same_reply (bytes.Full new) t nested size h = absurd h
@@ -90,29 +90,29 @@ same_reply (bytes.Full new) t nested size h = absurd h
 abbrev pub PartsOf : bytes.Change → List ℕ → Tree → Parts → Type 0
 PartsOf c old t parts = (changed_reply t c ≡ part (differing (runs_of parts))) × (stored old c ≡ put_all (runs_of parts) old)
 
-pub parts_reply : (c : bytes.Change) (old : List ℕ) (t : Tree) (size : ℕ) (parts : Parts) → IsPlanned c (depth t) size (planned.Parts parts) → PartsOf c old t parts
+pub parts_reply : (c : bytes.Change) (old : List ℕ) (t : Tree) (size : ℕ) (parts : Parts) → IsPlanFor c (depth t) size (planned.Parts parts) → PartsOf c old t parts
 parts_reply bytes.Same old t size parts h = absurd h
 parts_reply (bytes.Parts rs) old t size parts h = (rw (shallow_so t h.0) (ap (λ qs. part (differing qs)) (sym h.1)), ap (λ qs. put_all qs old) (sym h.1))
 parts_reply (bytes.Full new) old t size parts h = absurd h
 
-pub few_planned : (old : List ℕ) (t : Tree) (e : Edit) (c : bytes.Change) (nested size : ℕ) (parts : Parts) → bytes.change old t e ≡ c → IsPlanned c nested size (planned.Parts parts) → differing (runs_of parts) ≤ length old
+pub few_planned : (old : List ℕ) (t : Tree) (e : Edit) (c : bytes.Change) (nested size : ℕ) (parts : Parts) → bytes.change old t e ≡ c → IsPlanFor c nested size (planned.Parts parts) → differing (runs_of parts) ≤ length old
 few_planned old t e bytes.Same nested size parts is h = absurd h
 few_planned old t e (bytes.Parts rs) nested size parts is h = subst (λ qs. differing qs ≤ length old) (sym h.1) (few_parts old t e rs is)
 few_planned old t e (bytes.Full new) nested size parts is h = absurd h
 
-pub full_reply : (c : bytes.Change) (old : List ℕ) (t : Tree) (size : ℕ) (out : _) → IsPlanned c (depth t) size (planned.Full out) → length out.items ≤ 16777216 → (changed_reply t c ≡ full) × (stored old c ≡ out.items)
+pub full_reply : (c : bytes.Change) (old : List ℕ) (t : Tree) (size : ℕ) (out : _) → IsPlanFor c (depth t) size (planned.Full out) → length out.items ≤ 16777216 → (changed_reply t c ≡ full) × (stored old c ≡ out.items)
 full_reply bytes.Same old t size out h small = absurd h
 full_reply (bytes.Parts rs) old t size out h small = absurd h
 full_reply (bytes.Full new) old t size out h small =
     let fits : is_too_large new ≡ false = small_so new (subst (λ xs. length xs ≤ 16777216) h.2 small) in
     (rw (shallow_so t h.0, fits) refl, sym h.2)
 
-pub deep_reply : (c : bytes.Change) (t : Tree) (size : ℕ) → IsRefused c (depth t) size Deep → changed_reply t c ≡ deep
+pub deep_reply : (c : bytes.Change) (t : Tree) (size : ℕ) → IsPlanRefused c (depth t) size Deep → changed_reply t c ≡ deep
 deep_reply bytes.Same t size h = absurd h.0
 deep_reply (bytes.Parts rs) t size h = rw (deep_so t h.1) refl
 deep_reply (bytes.Full new) t size h = rw (deep_so t h.1) refl
 
-pub large_reply : (old : List ℕ) (t : Tree) (e : Edit) (c : bytes.Change) → bytes.change old t e ≡ c → IsRefused c (depth (edited e t)) (canonical_length (edited e t)) Large → changed_reply (edited e t) c ≡ large
+pub large_reply : (old : List ℕ) (t : Tree) (e : Edit) (c : bytes.Change) → bytes.change old t e ≡ c → IsPlanRefused c (depth (edited e t)) (canonical_length (edited e t)) Large → changed_reply (edited e t) c ≡ large
 large_reply old t e bytes.Same is h = absurd h.0
 large_reply old t e (bytes.Parts rs) is h = absurd h.0
 large_reply old t e (bytes.Full new) is h =
@@ -129,7 +129,7 @@ module _ (docs : Docs Kept) (d : ℕ) (old : List ℕ) (e : Edit) (found : look 
   its_change = bytes.change old (tree_in old) e
 
   pub table : (r : Reply) → changed_reply new_tree its_change ≡ r → r ≡ reply_to (Change d e) docs
-  table r h = sym h ∙ sym (ap (Rattle.journal_model.specs.Legal.edit_reply e) found)
+  table r h = sym h ∙ sym (ap (Rattle.journal_model.specs.Replies.edit_reply e) found)
 
   pub left : (new : List ℕ) → Stands new new_tree → stored old its_change ≡ new → with_doc docs d (kept_of new) ≡ keep (Change d e) docs
   left new stands is =

@@ -1,5 +1,7 @@
-pub mod Growth
 pub mod LineLemmas
 pub mod NumberLemmas
 pub mod ScriptLemmas
 pub mod ArgumentLemmas
+pub mod ListLemmas
+pub mod WordLemmas
+pub mod LimitLemmas

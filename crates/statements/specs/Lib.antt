@@ -1,5 +1,9 @@
 pub mod Causes
 pub mod Forms
+pub mod Limits
+pub mod Lines
 pub mod Reads
+pub mod Scripts
 pub mod Entries
+pub mod Journals
 pub mod Arguments

@@ -1,53 +1,77 @@
-// A script and its reading.
-ghost use Rattle.std.specs.Prelude.{ℕ, ◌≡◌, ◌≤◌, vec_len, Ok, Err, map, IfOk, IsErrOf};
-ghost use Rattle.journal_model.specs.ScriptText.{read_script as script_read};
-ghost use Rattle.statements.specs.Causes.{cause_of};
-ghost use Rattle.statements.specs.Forms.{mode_view, lines_of};
-ghost use Rattle.statements.specs.declared.cause.Cause.{Cause};
+// A script.
+ghost use Rattle.std.specs.Prelude.{◌≡◌, ◌≤◌, vec_len, true};
+ghost use Rattle.std.specs.List.{list_all};
+ghost use Rattle.journal_model.specs.ScriptText.{most_statements};
+ghost use Rattle.journal_model.specs.StatementText.{greatest_session};
+ghost use Rattle.statements.specs.Limits.{has_session, said, are_numbered};
 
-use crate::error::LineError;
-use crate::line::read_statement;
-use crate::lines::{is_skippable, next_line};
-use crate::{Cause, Mode, Script};
-use std::alloc::Global;
+use crate::Statement;
+use engine_base::SessionNo;
 
-/// Why bytes are no script.
-#[derive(Debug, Drop)]
-pub enum ScriptError {
-    /// The first bad line, from 1, and the first reason why it is bad.
-    Line { line: u64, cause: Cause },
-    Memory,
+/// One line of a script. The statement that a session says stands in the session's own list.
+#[derive(Clone, Copy, Debug, PartialEq, Eq)]
+pub enum Line {
+    /// The session's next statement comes. Unless the line is driven it steps nothing.
+    Say { session: SessionNo, driven: bool },
+    /// The session makes up to so many steps.
+    Step { session: SessionNo, times: u32 },
+    /// All that no view needs any more is purged.
+    Purge,
+    Checkpoint,
+    /// The store is counted.
+    Audit,
+    /// All memory is dropped, and the store is opened again.
+    Restart,
 }
 
-/// The script that bytes are, or its first bad line. Lines are counted with those that are skipped.
-pub fn read_script(alloc: Global, mode: Mode, bytes: &[u8]) -> Result<Script, ScriptError>
-    ensures ok { IfOk result (λ script. script_read (mode_view mode) bytes.now ≡ Ok (lines_of script)) }
-    ensures line { (line : ℕ) (cause : Cause) → IsErrOf result (ScriptError.Line line cause) → script_read (mode_view mode) bytes.now ≡ Err (line, cause_of cause) }
-{
-    let mut statements = Vec::new(alloc);
-    let mut number = 0usize;
-    let mut rest = bytes;
-    while !rest.is_empty() {
-        let (line, after) = next_line(rest);
-        number += 1;
-        rest = after;
-        if is_skippable(line) {
-            continue;
-        }
-        match read_statement(alloc, mode, statements.len(), line) {
-            Ok(statement) => {
-                if statements.push(statement).is_err() {
-                    return Err(ScriptError::Memory);
-                }
-            }
-            Err(LineError::Bad(cause)) => {
-                return Err(ScriptError::Line {
-                    line: number as u64,
-                    cause,
-                });
-            }
-            Err(LineError::Memory) => return Err(ScriptError::Memory),
-        }
+/// The lines in order, and the statements of each session in the order of their lines, those of
+/// session 1 first.
+#[derive(Drop)]
+pub struct Script {
+    lines: Vec<Line>,
+    statements: Vec<Vec<Statement>>,
+    ghost lists: { vec_len statements ≡ greatest_session },
+    ghost sessions: { list_all has_session lines.items ≡ true },
+    ghost few: { said lines.items ≤ most_statements },
+    ghost documents: { list_all are_numbered statements.items ≡ true },
+}
+
+impl Script {
+    ghost use Rattle.std.specs.Prelude.{map, length};
+    ghost use Rattle.journal_model.specs.Journal as journal;
+    ghost use Rattle.statements.specs.Forms.{statement_of};
+    ghost use Rattle.statements.specs.Limits.{is_numbered};
+    ghost use Rattle.statements.specs.Lines.{shape_of};
+    ghost use Rattle.statements.specs.Scripts.{IsScript};
+
+    pub(crate) fn new(lines: Vec<Line>, statements: Vec<Vec<Statement>>) -> Script
+        requires lists { length statements.items ≡ greatest_session }
+        requires sessions { list_all has_session lines.items ≡ true }
+        requires few { said lines.items ≤ most_statements }
+        requires documents { list_all are_numbered statements.items ≡ true }
+        ensures lines { result.lines ≡ lines }
+        ensures statements { result.statements ≡ statements }
+    {
+        Script { lines, statements }
     }
-    Ok(Script { statements })
+
+    pub fn lines(&self) -> &[Line]
+        ensures lines { (model : journal.Script) → IsScript self.now model
+            → result.now ≡ map shape_of model }
+        ensures sessions { list_all has_session result.now ≡ true }
+        ensures few { said result.now ≤ most_statements }
+    {
+        self.lines.as_slice()
+    }
+
+    /// The statements of one session.
+    pub fn statements(&self, session: SessionNo) -> &[Statement]
+        requires { (1 ≤ session.0) × (session.0 ≤ greatest_session) }
+        ensures statements { (model : journal.Script) → IsScript self.now model
+            → map statement_of result.now ≡ journal.statements session.0 model }
+        ensures documents { list_all is_numbered result.now ≡ true }
+    {
+        let index = usize::from(session.0) - 1;
+        self.statements[index].as_slice()
+    }
 }

@@ -1,28 +1,47 @@
-// What a script asks for.
-ghost use Rattle.std.specs.Prelude.{◌≤◌, vec_len};
-
+// What a session asks for.
 use engine_base::DocId;
 use json_edit::Edit;
 use json_tree::Json;
 
-/// One request of a session, made by itself: a change commits, and a read takes a view of its own.
+/// A change of the documents.
 #[derive(Drop)]
-pub enum Statement {
+pub enum Call {
     /// Puts a document where none stands.
     Insert(DocId, Json),
     /// Edits a document.
     Change(DocId, Edit),
     /// Takes a document out.
     Delete(DocId),
-    /// Shows a document.
+}
+
+/// A question about a document.
+#[derive(Clone, Copy, Debug, PartialEq, Eq)]
+pub enum Question {
+    /// Shows it.
     Get(DocId),
-    /// Tells how long a document is stored.
+    /// Tells how long it is stored.
     Size(DocId),
 }
 
-/// The statements of the one session, in the order of their lines.
+/// What a transaction's reads see.
+#[derive(Clone, Copy, Debug, PartialEq, Eq)]
+pub enum Level {
+    /// What was committed at its first read.
+    Rr,
+    /// What was committed at each read.
+    Rc,
+}
+
+/// One request of a session. Outside a transaction it is made by itself: a change commits, and a
+/// read takes a view of its own.
 #[derive(Drop)]
-pub struct Script {
-    pub statements: Vec<Statement>,
-    ghost few: { vec_len statements ≤ 100_000 },
+pub enum Statement {
+    Change(Call),
+    Read(Question),
+    /// Opens a transaction.
+    Begin(Level),
+    /// Ends the transaction. What it changed is a commit.
+    Commit,
+    /// Ends the transaction. What it changed is undone.
+    Rollback,
 }

@@ -1,16 +1,108 @@
 use super::*;
-use engine_base::{CommitNo, DocId, SessionNo};
+use engine_base::{DocId, SessionNo};
 use json_edit::Edit;
 use json_tree::Json;
 use std::test::*;
 
+const EVERYTHING: Built = Built {
+    sessions: 64,
+    marks: true,
+    transactions: true,
+    steps: true,
+    purges: true,
+    checkpoints: true,
+    audits: true,
+    restarts: true,
+};
+
+const ALONE: Built = Built {
+    sessions: 1,
+    marks: false,
+    transactions: false,
+    steps: false,
+    purges: false,
+    checkpoints: false,
+    audits: false,
+    restarts: false,
+};
+
 // The line that is bad and why, with 0 where the bytes are a script.
-fn first_bad(rt: &HostRuntime, mode: Mode, bytes: &[u8]) -> Result<(u64, Cause), Fail> {
-    match read_script(rt.alloc(), mode, bytes) {
+fn first_bad_of(
+    rt: &HostRuntime,
+    built: Built,
+    mode: Mode,
+    bytes: &[u8],
+) -> Result<(u64, Cause), Fail> {
+    match read_script(rt.alloc(), built, mode, bytes) {
         Ok(_) => Ok((0, Cause::Word)),
         Err(ScriptError::Line { line, cause }) => Ok((line, cause)),
         Err(ScriptError::Memory) => Err(Fail::from("memory is there")),
     }
+}
+
+// The same of a program that takes one session alone.
+fn first_bad(rt: &HostRuntime, mode: Mode, bytes: &[u8]) -> Result<(u64, Cause), Fail> {
+    first_bad_of(rt, ALONE, mode, bytes)
+}
+
+#[test]
+fn lines_of_the_whole_grammar(rt: HostRuntime) -> Result<(), Fail> {
+    let cases: [(&[u8], u64, Cause); 12] = [
+        (b"s64& get 1\ns1 begin rr\ns2 commit", 0, Cause::Word),
+        (
+            b".step 64 1000000\n.purge\n.checkpoint\n.audit\n.restart\n",
+            0,
+            Cause::Word,
+        ),
+        (b"s2 get 0", 1, Cause::Document),
+        (b"s65 get 0", 1, Cause::Session),
+        (b"s01 get 0", 1, Cause::Session),
+        (b"s1&& get 1", 1, Cause::Session),
+        (b"s1 begin ru", 1, Cause::Word),
+        (b"s1 commit ", 1, Cause::Word),
+        (b".step 99 0", 1, Cause::Word),
+        (b".step 99 1", 1, Cause::Session),
+        (b".step 1 1000001", 1, Cause::Word),
+        (b".purge ", 1, Cause::Word),
+    ];
+    for (bytes, line, cause) in cases {
+        assert_eq!(rt;
+            first_bad_of(&rt, EVERYTHING, Mode::Turns, bytes)?,
+            (line, cause)
+        );
+    }
+    Ok(())
+}
+
+#[test]
+fn sessions_and_their_statements(rt: HostRuntime) -> Result<(), Fail> {
+    let bytes = b"s2 begin rc\ns1& get 7\n.step 2 3\ns2 commit\n";
+    let script = read_script(rt.alloc(), EVERYTHING, Mode::Turns, bytes)
+        .ok()
+        .ok_or("a script")?;
+    let session = SessionNo(2);
+    let lines = [
+        Line::Say {
+            session,
+            driven: true,
+        },
+        Line::Say {
+            session: SessionNo(1),
+            driven: false,
+        },
+        Line::Step { session, times: 3 },
+        Line::Say {
+            session,
+            driven: true,
+        },
+    ];
+    assert_eq!(rt; script.lines(), &lines[..]);
+    let [first, last] = script.statements(session) else {
+        return Err(Fail::from("two statements"));
+    };
+    assert!(rt; matches!(first, Statement::Begin(Level::Rc)));
+    assert!(rt; matches!(last, Statement::Commit));
+    Ok(())
 }
 
 #[test]
@@ -159,138 +251,26 @@ fn causes_behind_all_statements(rt: HostRuntime) -> Result<(), Fail> {
 #[test]
 fn statements_in_the_order_of_their_lines(rt: HostRuntime) -> Result<(), Fail> {
     let bytes =
-        b"# four\r\ns1 insert 4294967295 null\r\ns1 remove 2 [\"$.a\",\"$[3]\"]\n\ns1 delete 3\ns1 get 7";
-    let script = read_script(rt.alloc(), Mode::Turns, bytes)
+        b"#\r\ns1 insert 4294967295 null\r\ns1 remove 2 [\"$.a\",\"$[3]\"]\n\ns1 delete 3\ns1 get 7";
+    let script = read_script(rt.alloc(), ALONE, Mode::Turns, bytes)
         .ok()
         .ok_or("a script")?;
-    let [first, second, third, last] = script.statements.as_slice() else {
+    let [first, second, third, last] = script.statements(SessionNo(1)) else {
         return Err(Fail::from("four statements"));
     };
-    assert!(rt; matches!(first, Statement::Insert(DocId(4_294_967_295), Json::Null)));
-    assert!(rt; matches!(second, Statement::Change(DocId(2), Edit::Remove(_))));
-    assert!(rt; matches!(third, Statement::Delete(DocId(3))));
-    assert!(rt; matches!(last, Statement::Get(DocId(7))));
-    Ok(())
-}
-
-#[test]
-fn entries_as_lines(rt: HostRuntime) -> Result<(), Fail> {
-    let session = SessionNo(2);
-    let statement = 100_000;
-    let commits = CommitNo(18_446_744_073_709_551_615);
-    let number = CommitNo(10);
-    let document = DocId(7);
-    let holder = SessionNo(64);
-    let reply = Reply::Same;
-    let report = Audit::Report {
-        docs: 1,
-        lobs: 2,
-        pieces: 3,
-        versions: 4,
-    };
-    let cases: [(Entry, &[u8]); 13] = [
-        (Entry::Start { session, statement }, b"9 s2 start 100000\n"),
-        (
-            Entry::View { session, commits },
-            b"9 s2 view 18446744073709551615\n",
-        ),
-        (
-            Entry::Wait {
-                session,
-                document,
-                holder,
-            },
-            b"9 s2 wait 7 s64\n",
-        ),
-        (
-            Entry::Did {
-                session,
-                statement,
-                reply,
-            },
-            b"9 s2 did 100000 same\n",
-        ),
-        (Entry::Commit { session, number }, b"9 s2 commit 10\n"),
-        (
-            Entry::Undone {
-                session,
-                by: Undoer::Rollback,
-            },
-            b"9 s2 undone rollback\n",
-        ),
-        (
-            Entry::Undone {
-                session,
-                by: Undoer::Deadlock,
-            },
-            b"9 s2 undone deadlock\n",
-        ),
-        (
-            Entry::Undone {
-                session,
-                by: Undoer::End,
-            },
-            b"9 s2 undone end\n",
-        ),
-        (Entry::Purged { number }, b"9 purged 10\n"),
-        (
-            Entry::Audited(report),
-            b"9 audit docs 1 lobs 2 pieces 3 versions 4\n",
-        ),
-        (
-            Entry::Audited(Audit::Busy(Who::Session(session))),
-            b"9 audit busy s2\n",
-        ),
-        (
-            Entry::Audited(Audit::Busy(Who::Purge)),
-            b"9 audit busy purge\n",
-        ),
-        (
-            Entry::Restart {
-                commits: CommitNo(0),
-            },
-            b"9 restart 0\n",
-        ),
-    ];
-    for (entry, line) in cases {
-        let mut out = Vec::new(rt.alloc());
-        entry_text(9, &entry, &mut out)?;
-        assert_eq!(rt; out.as_slice(), line);
-    }
-    Ok(())
-}
-
-#[test]
-fn replies_as_texts(rt: HostRuntime) -> Result<(), Fail> {
-    let text = Vec::from_slice(rt.alloc(), b"[1, 2]")?;
-    let cases: [(Reply, &[u8]); 12] = [
-        (Reply::Large, b"7 s1 did 3 err large\n"),
-        (Reply::Part(1000), b"7 s1 did 3 ok part 1000\n"),
-        (
-            Reply::Sized { size: 47, free: 3 },
-            b"7 s1 did 3 size 47 free 3\n",
-        ),
-        (Reply::Missing, b"7 s1 did 3 err missing\n"),
-        (Reply::Same, b"7 s1 did 3 same\n"),
-        (Reply::Done, b"7 s1 did 3 ok\n"),
-        (Reply::Exists, b"7 s1 did 3 err exists\n"),
-        (Reply::Deep, b"7 s1 did 3 err deep\n"),
-        (Reply::Full, b"7 s1 did 3 ok full\n"),
-        (Reply::Doc(text), b"7 s1 did 3 doc [1, 2]\n"),
-        (Reply::Absent, b"7 s1 did 3 none\n"),
-        (Reply::Memory, b"7 s1 did 3 err memory\n"),
-    ];
-    for (reply, line) in cases {
-        let session = SessionNo(1);
-        let statement = 3;
-        let did = Entry::Did {
-            session,
-            statement,
-            reply,
-        };
-        let mut out = Vec::new(rt.alloc());
-        entry_text(7, &did, &mut out)?;
-        assert_eq!(rt; out.as_slice(), line);
-    }
+    assert!(rt;
+        matches!(
+            first,
+            Statement::Change(Call::Insert(DocId(4_294_967_295), Json::Null))
+        )
+    );
+    assert!(rt;
+        matches!(
+            second,
+            Statement::Change(Call::Change(DocId(2), Edit::Remove(_)))
+        )
+    );
+    assert!(rt; matches!(third, Statement::Change(Call::Delete(DocId(3)))));
+    assert!(rt; matches!(last, Statement::Read(Question::Get(DocId(7)))));
     Ok(())
 }

@@ -1,8 +1,12 @@
 // The words of a line.
-ghost use Rattle.std.specs.Prelude.{ℕ, ◌≡◌, ◌&&◌, List, option_map};
+ghost use Rattle.std.specs.Prelude.{ℕ, ◌≡◌, ◌≤◌, ◌&&◌, true, List, option_map, IfSome};
 ghost use Rattle.std.specs.List.{list_any};
-ghost use Rattle.journal_model.specs.ScriptText.{begins_with, is_marked, first_word, behind, is_space, document_number, session_number, form_of, runs_on};
+ghost use Rattle.journal_model.specs.ScriptText.{begins_with, is_marked, session_text as text_of, first_word, behind, is_space, number_up_to as number_of, document_number, session_number, is_of_transaction, form_of, runs_on};
+ghost use Rattle.journal_model.specs.StatementText.{greatest_session};
 ghost use Rattle.statements.specs.Forms.{form_view};
+
+use crate::Level;
+use crate::limits::MAX_SESSIONS;
 
 /// The edits, by their word.
 #[derive(Clone, Copy, Debug)]
@@ -14,23 +18,41 @@ pub enum EditWord {
 
 /// The forms of a statement, by its word.
 #[derive(Clone, Copy, Debug)]
-pub enum Form {
+pub enum StatementKind {
     Insert,
     Change(EditWord),
     Delete,
     Get,
     Size,
+    Begin(Level),
+    Commit,
+    Rollback,
 }
 
-impl Form {
+impl StatementKind {
     /// Whether no text stands behind its words, so that no space may.
     pub fn ends_a_line(self) -> bool
-        ensures { (rest : List ℕ) → result && list_any is_space rest ≡ runs_on (form_view self) rest }
+        ensures { (rest : List ℕ) → result && list_any is_space rest
+            ≡ runs_on (form_view self) rest }
     {
         match self {
-            Form::Insert | Form::Change(_) => false,
-            Form::Delete | Form::Get | Form::Size => true,
+            StatementKind::Insert
+            | StatementKind::Change(_)
+            | StatementKind::Begin(_)
+            | StatementKind::Commit
+            | StatementKind::Rollback => false,
+            StatementKind::Delete | StatementKind::Get | StatementKind::Size => true,
         }
+    }
+
+    /// Whether it opens or ends a transaction.
+    pub fn is_of_transaction(self) -> bool
+        ensures { result ≡ is_of_transaction (form_view self) }
+    {
+        matches!(
+            self,
+            StatementKind::Begin(_) | StatementKind::Commit | StatementKind::Rollback
+        )
     }
 }
 
@@ -72,38 +94,77 @@ pub fn has_space(text: &str) -> bool
     text.as_bytes().iter().any(|byte| *byte == b' ')
 }
 
-/// A number from 1 to 4,294,967,295, in decimal without leading zeros.
-pub fn document_number(word: &str) -> Option<u32>
-    ensures { result ≡ document_number word.now }
+/// A number from 1 to the greatest, in decimal without leading zeros.
+pub fn number_up_to(greatest: u32, word: &str) -> Option<u32>
+    ensures number { result ≡ number_of greatest word.now }
+    ensures within { IfSome result (λ n. (1 ≤ n) × (n ≤ greatest)) }
 {
     let [b'1'..=b'9', ..] = word.as_bytes() else {
         return None;
     };
     match word.parse::<u32>() {
-        Ok(number) => Some(number),
+        Ok(number) => {
+            if number <= greatest {
+                Some(number)
+            } else {
+                None
+            }
+        }
         Err(_) => None,
     }
 }
 
-/// The session that a line's first word names.
-pub fn session_number(word: &str) -> Option<u8>
-    ensures { result ≡ session_number word.now }
+/// A number from 1 to 4,294,967,295.
+pub fn document_number(word: &str) -> Option<u32>
+    ensures number { result ≡ document_number word.now }
+    ensures within { IfSome result (λ n. 1 ≤ n) }
 {
-    if word == "s1" { Some(1) } else { None }
+    number_up_to(u32::MAX, word)
 }
 
-/// The form that a statement's word names.
-pub fn form_of(word: &str) -> Option<Form>
-    ensures { option_map form_view result ≡ form_of word.now }
+/// The number behind the `s` of a line's first word.
+pub fn session_number(word: &str) -> Option<u8>
+    ensures number { result ≡ session_number word.now }
+    ensures within { IfSome result (λ n. (1 ≤ n) × (n ≤ greatest_session)) }
 {
-    match word {
-        "insert" => Some(Form::Insert),
-        "set" => Some(Form::Change(EditWord::Set)),
-        "replace" => Some(Form::Change(EditWord::Replace)),
-        "remove" => Some(Form::Change(EditWord::Remove)),
-        "delete" => Some(Form::Delete),
-        "get" => Some(Form::Get),
-        "size" => Some(Form::Size),
-        _ => None,
+    match number_up_to(u32::from(MAX_SESSIONS), word) {
+        Some(number) => Some(number as u8),
+        None => None,
+    }
+}
+
+/// What stands behind the `s` of a line's first word, without the mark.
+pub fn session_text(first: &str) -> &str
+    requires { begins_with 115 first.now ≡ true }
+    ensures { result.now ≡ text_of first.now }
+{
+    let Some(rest) = first.strip_prefix('s') else {
+        return "";
+    };
+    match rest.strip_suffix('&') {
+        Some(front) => front,
+        None => rest,
+    }
+}
+
+/// The form of a statement, by its first word and its whole text.
+pub fn form_of(first: &str, text: &str) -> Option<StatementKind>
+    ensures { option_map form_view result ≡ form_of first.now text.now }
+{
+    match first {
+        "insert" => Some(StatementKind::Insert),
+        "set" => Some(StatementKind::Change(EditWord::Set)),
+        "replace" => Some(StatementKind::Change(EditWord::Replace)),
+        "remove" => Some(StatementKind::Change(EditWord::Remove)),
+        "delete" => Some(StatementKind::Delete),
+        "get" => Some(StatementKind::Get),
+        "size" => Some(StatementKind::Size),
+        _ => match text {
+            "begin" | "begin rr" => Some(StatementKind::Begin(Level::Rr)),
+            "begin rc" => Some(StatementKind::Begin(Level::Rc)),
+            "commit" => Some(StatementKind::Commit),
+            "rollback" => Some(StatementKind::Rollback),
+            _ => None,
+        },
     }
 }
