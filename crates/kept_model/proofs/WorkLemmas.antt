@@ -1,0 +1,71 @@
+-- The further events of a change, by its kind: a piece of a new LOB is added, a version is pushed.
+use Rattle.std.proofs.Common.{◌≡◌, ◌≢◌, inl, inr, ℕ, false, List, ◌∷◌, Option, refl, sym, ap, subst, ◌∙◌}
+use Rattle.std.proofs.lemmas.Bool.{cases_eq}
+use Rattle.page_model.specs.Pages.{Address}
+use Rattle.store_data.specs.Store.{Version, Piece, Lob, Store}
+use Rattle.store_data.specs.Pieces.{Part}
+use Rattle.store_model.specs.History.{Change, changes, row_before}
+use Rattle.store_data.specs.Pieces.{pushed}
+use Rattle.store_model.specs.Steps.{on_lob, on_lobs, with_nodes, with_piece, at_piece}
+use Rattle.store_model.specs.Behind.{AllRows, IsElsewhere}
+use Rattle.store_model.specs.Keeps.{IsVersioned, Makes}
+use Rattle.store_model.specs.Well.{IsWell}
+use Rattle.store_model.proofs.FurtherLemmas.{same_elsewhere}
+use Rattle.store_model.proofs.GivesLemmas.{newest_chain, made_elsewhere, made_live, others_elsewhere, version_below, version_live, push_older, push_others, piece_older, piece_others}
+use Rattle.read_model.specs.Document.{Sees}
+use Rattle.read_model.specs.Flight.{Flight, IsFlight}
+use Rattle.read_model.specs.Events.{Touches}
+use Rattle.read_model.specs.OfStore.{document}
+use Rattle.read_model.proofs.EventLemmas.{kept_where_touched}
+use Rattle.read_model.proofs.StoreLobLemmas.{add_touches, push_touches}
+use Rattle.read_model.proofs.StoreLemmas.{seen_elsewhere, before_elsewhere, before_older}
+use Rattle.kept_model.specs.Works.{Works}
+use Rattle.kept_model.proofs.KindLemmas.{will_same}
+
+module _ (store : Store) (trx d : ℕ) (c : Change) (cs : List Change) (well : IsWell store) (e : changes store d ≡ c ∷ cs) (mine : c.trx ≡ trx) where
+  pub row_trx : (row_before store d).trx ≡ trx
+  row_trx = (newest_chain store d c cs well e).0.trx ∙ mine
+
+  -- a read of the document, or of another
+  pub by_touch : (f : List Lob → List Lob) → ((sees : Sees) → sees (row_before store d).trx ≡ false → Touches sees (document store d) (document (on_lobs f store) d))
+      → ((sees : Sees) (q : ℕ) → q ≢ d → Touches sees (document store q) (document (on_lobs f store) q))
+      → (sees : Sees) (q : ℕ) (parts : Option (List Part)) (fl : Flight) → sees trx ≡ false → IsFlight sees (document store q) parts fl → IsFlight sees (document (on_lobs f store) q) parts fl
+  by_touch f own others sees q parts fl unseen h = elim (cases_eq q d) [
+    | inl here ↦ subst (λ (n : ℕ). IsFlight sees (document (on_lobs f store) n) parts fl) (sym here)
+        (kept_where_touched sees (document store d) (document (on_lobs f store) d) parts fl (own sees (ap sees row_trx ∙ unseen)) (subst (λ (n : ℕ). IsFlight sees (document store n) parts fl) here h))
+    | inr other ↦ kept_where_touched sees (document store q) (document (on_lobs f store) q) parts fl (others sees q other) h
+  ]
+
+  -- a piece is added to the LOB that the change makes
+  pub piece_works : (page : ℕ) → Makes page c.undo.body → (piece : Piece) (index : List ℕ) (free : List Address)
+      → Works trx d (on_lob page (λ l. with_nodes index free (with_piece piece l))) store
+  piece_works page makes piece index free =
+      let live_row = made_live store d page c cs well e makes in
+      let apart : (q : ℕ) → q ≢ d → AllRows (IsElsewhere page) store q = λ q other. others_elsewhere store d q page well (λ g. other (sym g)) live_row.0 live_row.1 in
+      record {
+        older = piece_older store d c cs well e page makes piece index free;
+        others = λ q other. piece_others store d c cs well e page makes piece index free q (λ g. other (sym g));
+        reads = by_touch (on_lob page (λ l. with_nodes index free (with_piece piece l)))
+            (λ sees unseen. add_touches sees store d page piece index free (before_elsewhere sees store d page unseen (made_elsewhere store d page c cs well e makes)))
+            (λ sees q other. add_touches sees store q page piece index free (seen_elsewhere sees store q page (apart q other)));
+        elsewhere = λ q other left. will_same left store.lobs (on_lob page (λ l. with_nodes index free (with_piece piece l)) store.lobs) (row_before store q)
+            (same_elsewhere page (λ l. with_nodes index free (with_piece piece l)) store.lobs (λ l. refl) (row_before store q) (apart q other).0);
+      }
+
+  -- a version is pushed into the LOB that the change has raised
+  pub push_works : IsVersioned c.undo.body → (k : ℕ) (node : Address) (v : Version) (index : List ℕ) (free : List Address) → v.number ≡ (row_before store d).lob.version
+      → Works trx d (on_lob (row_before store d).lob.page (λ l. with_nodes index free (at_piece k (pushed node v) l))) store
+  push_works versioned k node v index free number =
+      let page = (row_before store d).lob.page in
+      let apart : (q : ℕ) → q ≢ d → AllRows (IsElsewhere page) store q =
+      λ q other. others_elsewhere store d q page well (λ g. other (sym g)) (version_live store d c cs well e versioned) refl in
+      record {
+        older = push_older store d c cs well e versioned k node v index free number;
+        others = λ q other. push_others store d c cs well e versioned k node v index free q (λ g. other (sym g));
+        reads = by_touch (on_lob page (λ l. with_nodes index free (at_piece k (pushed node v) l)))
+            (λ sees unseen. push_touches sees store d page k node v index free (before_older sees store d page v.number unseen
+            (subst (λ (n : ℕ). Rattle.store_model.specs.Behind.AllBefore (Rattle.store_model.specs.Behind.IsBelow page n) (changes store d)) (sym number) (version_below store d c cs well e versioned))))
+            (λ sees q other. push_touches sees store q page k node v index free (λ above older w visible is_live here. absurd (seen_elsewhere sees store q page (apart q other) above older w visible is_live here)));
+        elsewhere = λ q other left. will_same left store.lobs (on_lob page (λ l. with_nodes index free (at_piece k (pushed node v) l)) store.lobs) (row_before store q)
+            (same_elsewhere page (λ l. with_nodes index free (at_piece k (pushed node v) l)) store.lobs (λ l. refl) (row_before store q) (apart q other).0);
+      }
