@@ -11,11 +11,12 @@ use Rattle.byteorder.specs.Numbers.{big_number-reads_back, length-bytes_high_fir
 use Rattle.page_model.specs.Pages.{page_bytes, patched}
 use Rattle.page_model.proofs.FrameLemmas.{length-patched, get_or-patched}
 use Rattle.file_model.specs.declared.layout.Layout.{Layout}
-use Rattle.file_model.specs.Sections.{part, count_place, greatest_batch, IsInLimits}
+use Rattle.file_model.specs.Sections.{part, count_place, max_batch, IsInLimits}
 use Rattle.file_model.specs.Doublewrite.{Batch, are_below, count_in, number_in, image_in, batch_in, header_batch}
 use Rattle.file_model.proofs.PartLemmas.{held_part, same_parts, part_whole}
 use Rattle.doublewrite.specs.Batches.{images_at, number_of, image_of, batch_of, KeepsBatch}
 
+-- functions that agree on the numbers below n give the same list over them
 pub range_same : {X : Type 0} (f g : ℕ → X) (n : ℕ) (d : X) → ((i : ℕ) → i < n → f i ≡ g i) → map f (range_with_len 0 n) ≡ map g (range_with_len 0 n)
 range_same f g n d same =
     fill_by_all g (map f (range_with_len 0 n)) n d (length-map-range_with_len f 0 n) (λ k low. get_or-map-range_with_len f 0 n k k d low (omega arith) ∙ same k low)
@@ -47,7 +48,7 @@ module _ (l : Layout) (count : ℕ) (buffer file : List ℕ) (keeps : KeepsBatch
   pub header_read : header_batch l file ≡ batch_of count buffer
   unfolding header_batch
   header_read =
-      ap₂ (λ (n : ℕ) (b : Batch). if nat_le n greatest_batch && are_below l.pages b then b else []) count_read batch_read
+      ap₂ (λ (n : ℕ) (b : Batch). if nat_le n max_batch && are_below l.pages b then b else []) count_read batch_read
       ∙ ap (λ (t : Bool). if t then batch_of count buffer else []) (and_from _ _ (le-leb _ _ few) keeps.below)
 
 -- ---- one page more
@@ -145,6 +146,7 @@ zeros : big_number 4 (part (replicate images_at 0) 0 4) ≡ 0
 unfolding part
 zeros = refl
 
+-- a buffer of zeros up to the images keeps a batch without pages
 pub keeps_none : (l : Layout) (buffer : List ℕ) → IsInLimits l → buffer ≡ replicate images_at 0 → KeepsBatch l 0 buffer
 keeps_none l buffer limits is = record {
   limits = limits;
@@ -154,5 +156,6 @@ keeps_none l buffer limits is = record {
   below = refl;
 }
 
+-- the batch in a buffer has as many pages as the count tells
 pub length-batch : (count : ℕ) (buffer : List ℕ) → length (batch_of count buffer) ≡ count
 length-batch count buffer = length-map-range_with_len (λ i. (number_of buffer i, image_of buffer i)) 0 count

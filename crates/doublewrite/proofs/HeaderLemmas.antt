@@ -8,7 +8,7 @@ use Rattle.engine_base.specs.Disk.{Holds}
 use Rattle.byteorder.specs.Endian.{big_number}
 use Rattle.byteorder.specs.Numbers.{big_from-take}
 use Rattle.file_model.specs.declared.layout.Layout.{Layout}
-use Rattle.file_model.specs.Sections.{part, count_place, greatest_batch}
+use Rattle.file_model.specs.Sections.{part, count_place, max_batch}
 use Rattle.file_model.specs.Doublewrite.{Batch, are_below, count_in, number_in, image_in, batch_in, header_batch}
 use Rattle.file_model.proofs.PartLemmas.{held_part}
 use Rattle.doublewrite.specs.Batches.{number_of}
@@ -51,7 +51,7 @@ module _ (header file : List ℕ) (size : length header ≡ 132) (holds : Holds 
         let few : i < n = omega (arith, low, count_read) in
         let all : are_below l.pages (batch_in file n) ≡ false =
         list_all_at p (batch_in file n) i (0, []) (omega (arith, few, length-map-range_with_len {X = ℕ × List ℕ} (λ i. (number_in file i, image_in file i)) 0 n)) (entry n i few (omega (arith, most, count_read)) ∙ le-ltb _ _ (omega (arith, over, same))) in
-        ap (λ (t : Bool). if t then batch_in file n else []) (and_right (nat_le n greatest_batch) (are_below l.pages (batch_in file n)) all)
+        ap (λ (t : Bool). if t then batch_in file n else []) (and_right (nat_le n max_batch) (are_below l.pages (batch_in file n)) all)
 
     pub valid : big_number 4 header ≤ 32 → ((i : ℕ) → i < big_number 4 header → number_of header i < pages) → header_batch l file ≡ batch_in file (big_number 4 header)
     unfolding header_batch

@@ -24,10 +24,12 @@ use Rattle.doublewrite.proofs.StepLemmas.{home_torn, home_done}
 
 -- ---- one page of a batch
 
+-- with a page more in the batch, its image is copied once the others are
 pub copied_more : (batch : Batch) (b : ℕ × List ℕ) (p : Pages) → copied (batch ++ b ∷ []) p ≡ slice_set (copied batch p) b.0 b.1
 copied_more [] b p = refl
 copied_more (a ∷ batch) b p = copied_more batch b (slice_set p a.0 a.1)
 
+-- the number at each place of a list is one that the list names
 pub named_at : (ns : List ℕ) (k : ℕ) → k < length ns → IsNamed ns (get_or ns k 0)
 named_at [] k low = absurd (omega arith)
 named_at (n ∷ ns) zero low = inl refl
@@ -143,12 +145,15 @@ pub of_ok : {T E : Type 0} (A : Type 0) (r : Result T E) → is_err r ≡ false 
 of_ok A (Ok x) not a = a
 of_ok A (Err e) not a = absurd (true≢false not)
 
+-- a file that differs in the batch's pages alone is what a crash may leave as they go home
 pub homing_torn : (l : Layout) (batch : Batch) (a c : List ℕ) → SameElsewhere (InPages l (numbers batch)) a c → WhileHoming l batch a c
 homing_torn l batch a c same is = home_torn l batch a c same is
 
+-- once all images of an armed batch are copied to its pages, the batch is home
 pub homing_done : (l : Layout) (batch : Batch) (a b : List ℕ) → Copying l (numbers batch) batch a b → Homing l batch a b
 homing_done l batch a b copying is = let copies = copying is.whole in home_done l batch a b copies.others copies.home is
 
+-- what holds of contents before and behind holds, where a call is Ok, of the same ones told again
 pub ok_same : {T E : Type 0} (P : List ℕ → List ℕ → Type 0) (r : Result T E) (o p q : Option (List ℕ)) → q ≡ p → Told P o p → OnOk r (Told P o q)
 ok_same P (Ok x) o p q same told = let T : Option (List ℕ) → Type 0 = λ m. Told P o m in subst T (sym same) told
 ok_same P (Err e) o p q same told = tt

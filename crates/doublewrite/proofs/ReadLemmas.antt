@@ -11,6 +11,7 @@ use Rattle.doublewrite.specs.Steps.{IsHeaded, InRepair, Repairing, WhileRepairin
 
 -- ---- repair
 
+-- a crash that leaves the file as it was is one that a repair may leave
 pub repair_none : (l : Layout) (a : List ℕ) → WhileRepairing l a a
 repair_none l a whole = record { repairs = refl; others = same_file (InRepair l (armed l a)) a }
 
@@ -39,6 +40,7 @@ headed_now l header count (Some a) p odd is set same holds batch =
     let there : Holds a count_place header = subst T same holds in
     λ whole. record { whole = whole; odd = sym is ∙ set; holds = there; batch = batch a there }
 
+-- what a crash may leave with the header read is what one within a repair may leave
 pub while_headed : (l : Layout) (header : List ℕ) (count : ℕ) (o : Option (List ℕ)) → IfSome o (λ a. wanted l ≤ length a → IsHeaded l header count a) → IfSome o (λ a. (c : List ℕ) → WhileHeading l header count a c → WhileRepairing l a c)
 while_headed l header count None headed = tt
 while_headed l header count (Some a) headed = λ c may whole. may (headed whole)
@@ -47,6 +49,7 @@ pub done_headed : (l : Layout) (header : List ℕ) (count : ℕ) (o : Option (Li
 done_headed l header count None headed = tt
 done_headed l header count (Some a) headed = λ c done whole. done (headed whole)
 
+-- the count that was read is how many pages the armed batch has
 pub count_headed : (l : Layout) (header : List ℕ) (count : ℕ) (o : Option (List ℕ)) → IfSome o (λ file. wanted l ≤ length file) → IfSome o (λ a. wanted l ≤ length a → IsHeaded l header count a) → IfSome o (λ file. count ≡ length (armed l file))
 count_headed l header count None whole headed = tt
 count_headed l header count (Some a) whole headed =

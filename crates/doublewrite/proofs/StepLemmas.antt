@@ -123,8 +123,10 @@ module _ (l : Layout) (count : ℕ) (buffer : List ℕ) (keeps : KeepsBatch l co
   arming_done a b c written one rest =
       arm_done l (batch_of count buffer) a b c (fill_torn a b written.torn) (fill_written a b written) (torn_elsewhere armed_place 1 b c one.torn) (one.holds (omega arith)) rest
 
+-- a crash while the armed byte is written leaves what disarming a home batch may leave
 pub resting_torn : (l : Layout) (batch : Batch) (a c : List ℕ) → Torn armed_place 1 a c → WhileResting l batch a c
 resting_torn l batch a c torn is = rest_torn l batch a c (torn_elsewhere armed_place 1 a c torn) is
 
+-- the armed byte written as 0 disarms a batch that is home
 pub resting_done : (l : Layout) (batch : Batch) (a b : List ℕ) → Written armed_place (0 ∷ []) a b → Resting l batch a b
 resting_done l batch a b written is = rest_done l batch a b (torn_elsewhere armed_place 1 a b written.torn) (written.holds (omega arith)) is

@@ -5,7 +5,7 @@ use Rattle.std.specs.List.{range_with_len}
 use Rattle.byteorder.specs.Endian.{big_number}
 use Rattle.page_model.specs.Pages.{page_bytes}
 use Rattle.file_model.specs.declared.layout.Layout.{Layout}
-use Rattle.file_model.specs.Sections.{part, greatest_batch, IsInLimits}
+use Rattle.file_model.specs.Sections.{part, max_batch, IsInLimits}
 use Rattle.file_model.specs.Doublewrite.{Batch, are_below}
 
 pub record BatchState : Type 0 where
@@ -31,7 +31,7 @@ batch_of count buffer = map (λ i. (number_of buffer i, image_of buffer i)) (ran
 
 pub record KeepsBatch (l : Layout) (count : ℕ) (buffer : List ℕ) : Type 0 where
   pub limits : IsInLimits l
-  pub few : count ≤ greatest_batch
+  pub few : count ≤ max_batch
   pub head : big_number 4 (part buffer 0 4) ≡ count
   pub size : length buffer ≡ images_at + page_bytes * count
   pub below : are_below l.pages (batch_of count buffer) ≡ true

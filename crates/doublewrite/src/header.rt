@@ -16,7 +16,7 @@ use file_model::places::ARMED;
 pub(crate) const HEADER: usize = 132;
 
 /// How many pages a batch has at most.
-const GREATEST_BATCH: u32 = 32;
+const MAX_BATCH: u32 = 32;
 
 /// Whether a batch is armed.
 pub(crate) fn is_armed<D: Disk>(disk: &mut D) -> Result<bool, Fault>
@@ -40,7 +40,7 @@ pub(crate) fn count_of(header: &[u8], pages: u32) -> u32
         → Holds file count_place header.now → header_batch l file ≡ batch_in file result }
 {
     let count = BigEndian::read_u32(header);
-    if count > GREATEST_BATCH {
+    if count > MAX_BATCH {
         return 0;
     }
     let mut i = 0;

@@ -1,4 +1,5 @@
--- What follows where a disk that tells no images is said to tell them: the law `seen_may_stay` of such a disk.
+-- What follows where a disk that tells no images is said to tell them: the law `seen_may_stay` of
+-- such a disk.
 use Rattle.std.specs.Prelude.{◌≡◌, Bool, true, false}
 use Rattle.std.proofs.Common.{subst}
 

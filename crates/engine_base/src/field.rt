@@ -16,7 +16,8 @@ pub fn read_field<P: Pages>(p: &mut P, page: PageNo, at: u16, width: u8) -> Resu
     requires page { page.0 < (P.state p.old).count }
     requires within { at + width ≤ page_bytes }
     requires may { MayUse (page.0 ∷ []) 0 0 (P.state p.old) }
-    ensures value { IfOk result (λ v. IfSome (P.state p.old).told (λ pages. v ≡ field pages page.0 at width)) }
+    ensures value { IfOk result (λ v.
+        IfSome (P.state p.old).told (λ pages. v ≡ field pages page.0 at width)) }
     ensures fits { IfOk result (λ v. v < 256 ^ width) }
     ensures told { (P.state p.new).told ≡ (P.state p.old).told }
     ensures writes { AddsNone (P.state p.old) (P.state p.new) }
@@ -52,8 +53,10 @@ pub fn write_field<P: Pages>(
     requires page { page.0 < (P.state p.old).count }
     requires within { at + width ≤ page_bytes }
     requires may { MayUse (page.0 ∷ []) 0 (width + write_head) (P.state p.old) }
-    ensures sets { OnOk result (Told (SetsField page.0 at width value) (P.state p.old).told (P.state p.new).told) }
-    ensures writes { OnOk result (AddsWrite page.0 at (big_bytes width value) (P.state p.old) (P.state p.new)) }
+    ensures sets { OnOk result (Told (SetsField page.0 at width value) (P.state p.old).told
+        (P.state p.new).told) }
+    ensures writes { OnOk result (AddsWrite page.0 at (big_bytes width value) (P.state p.old)
+        (P.state p.new)) }
     ensures uses { Uses P.state P.stays (page.0 ∷ []) 0 (width + write_head) p.old p.new }
     ensures cause { HasCause (P.state p.old).faults (P.state p.new).faults result }
     ensures plain { FailsPlainly result }
@@ -70,7 +73,8 @@ pub fn read_address<P: Pages>(p: &mut P, page: PageNo, at: u16) -> Result<Addr, 
     requires page { page.0 < (P.state p.old).count }
     requires within { at + 6 ≤ page_bytes }
     requires may { MayUse (page.0 ∷ []) 0 0 (P.state p.old) }
-    ensures value { IfOk result (λ a. IfSome (P.state p.old).told (λ pages. address_of a ≡ address_at pages page.0 at)) }
+    ensures value { IfOk result (λ a.
+        IfSome (P.state p.old).told (λ pages. address_of a ≡ address_at pages page.0 at)) }
     ensures told { (P.state p.new).told ≡ (P.state p.old).told }
     ensures writes { AddsNone (P.state p.old) (P.state p.new) }
     ensures uses { Uses P.state P.stays (page.0 ∷ []) 0 0 p.old p.new }
@@ -90,8 +94,10 @@ pub fn write_address<P: Pages>(p: &mut P, page: PageNo, at: u16, value: Addr) ->
     requires page { page.0 < (P.state p.old).count }
     requires within { at + 6 ≤ page_bytes }
     requires may { MayUse (page.0 ∷ []) 0 (6 + write_head) (P.state p.old) }
-    ensures sets { OnOk result (Told (SetsAddress page.0 at (address_of value)) (P.state p.old).told (P.state p.new).told) }
-    ensures writes { OnOk result (AddsWrite page.0 at (address_bytes (address_of value)) (P.state p.old) (P.state p.new)) }
+    ensures sets { OnOk result (Told (SetsAddress page.0 at (address_of value)) (P.state p.old).told
+        (P.state p.new).told) }
+    ensures writes { OnOk result (AddsWrite page.0 at (address_bytes (address_of value))
+        (P.state p.old) (P.state p.new)) }
     ensures uses { Uses P.state P.stays (page.0 ∷ []) 0 (6 + write_head) p.old p.new }
     ensures cause { HasCause (P.state p.old).faults (P.state p.new).faults result }
     ensures plain { FailsPlainly result }

@@ -1,4 +1,5 @@
-//! The header that each page begins with. Each number is big-endian, and what the table doesn't name is zero.
+//! The header that each page begins with. Each number is big-endian, and what the table doesn't
+//! name is zero.
 //!
 //! | Offset | Bytes | Field |
 //! |---|---|---|
@@ -47,7 +48,8 @@ pub enum PageType {
     LobIndex = 6,
 }
 
-/// A page's header: its number, its neighbours, each a number or null, and its type, as they stand there.
+/// A page's header: its number, its neighbours, each a number or null, and its type, as they stand
+/// there.
 #[derive(Clone, Copy, Debug, PartialEq, Eq)]
 pub struct PageHeader {
     pub number: PageNo,
@@ -59,7 +61,8 @@ pub struct PageHeader {
 impl PageHeader {
     /// The header of a page without neighbours.
     pub fn alone(number: PageNo, page_type: PageType) -> PageHeader
-        ensures { fields_of result ≡ header_fields number.0 NULL_PAGE NULL_PAGE (type_code page_type) }
+        ensures { fields_of result ≡ header_fields number.0 NULL_PAGE NULL_PAGE
+            (type_code page_type) }
     {
         PageHeader {
             number,

@@ -1,8 +1,9 @@
-// Limits that code over pages shares. Each is the number that the definitions over pages have for it.
+// Limits that code over pages shares. Each is the number that the definitions over pages have for
+// it.
 ghost use Rattle.std.specs.Prelude.{◌≡◌};
 ghost use Rattle.page_model.specs.Pages.{page_bytes, null_page};
-ghost use Rattle.page_model.specs.Steps.{most_pins, whole_room};
-ghost use Rattle.page_model.specs.Frames.{greatest_group};
+ghost use Rattle.page_model.specs.Steps.{max_pins, whole_room};
+ghost use Rattle.page_model.specs.Frames.{max_group};
 
 /// How many bytes a page has.
 pub const PAGE_BYTES: usize = 16_384;
@@ -23,7 +24,7 @@ pub const MAX_ROOM: u32 = MAX_GROUP as u32 - 6;
 pub fn limits_are_the_models()
     ensures page { PAGE_BYTES ≡ page_bytes }
     ensures null { NULL_PAGE ≡ null_page }
-    ensures pins { MAX_PINS ≡ most_pins }
-    ensures group { MAX_GROUP ≡ greatest_group }
+    ensures pins { MAX_PINS ≡ max_pins }
+    ensures group { MAX_GROUP ≡ max_group }
     ensures room { MAX_ROOM ≡ whole_room }
 {}

@@ -6,18 +6,22 @@ ghost use Rattle.engine_base.specs.Faults.{HasCause, FailsPlainly};
 
 use crate::{Fault, PageNo};
 
-/// Pages of 16,384 bytes, numbered from 0. A page is pinned from the first call that touches it on; at most 16 are.
+/// Pages of 16,384 bytes, numbered from 0. A page is pinned from the first call that touches it on;
+/// at most 16 are.
 pub trait Pages {
-    /// The pages and the writes made where they are told, the pages touched, the room, and how often it has failed.
+    /// The pages and the writes made where they are told, the pages touched, the room, and how
+    /// often it has failed.
     ghost state: { Self → PageState };
 
     /// Pages that are told are as many as `count` says, and whole.
-    ghost whole: { (p : Self) (pages : List (List ℕ)) → (state p).told ≡ Some pages → AreWhole pages (state p).count };
+    ghost whole: { (p : Self) (pages : List (List ℕ)) → (state p).told ≡ Some pages
+        → AreWhole pages (state p).count };
 
     /// A page has a number of 32 bits.
     ghost few: { (p : Self) → (state p).count < 2 ^ 32 };
 
-    /// What lies below stands as before in all that no read and no write may change, as a cache's own pages.
+    /// What lies below stands as before in all that no read and no write may change, as a cache's
+    /// own pages.
     ghost stays: { Self → Self → Type 0 };
 
     ghost stays_still: { (p : Self) → stays p p };
@@ -49,15 +53,19 @@ pub trait Pages {
         ensures cause { HasCause (state self.old).faults (state self.new).faults result }
         ensures plain { FailsPlainly result };
 
-    /// Writes over bytes of a page. It is one write, also of no bytes and of bytes that stand there already. At a `Fault` the pages may hold anything, and the mini-transaction is to be abandoned.
+    /// Writes over bytes of a page. It is one write, also of no bytes and of bytes that stand there
+    /// already. At a `Fault` the pages may hold anything, and the mini-transaction is to be
+    /// abandoned.
     fn write(&mut self, page: PageNo, at: u16, bytes: &[u8]) -> Result<(), Fault>
         requires page { page.0 < (state self.old).count }
         requires within { at + length bytes.now ≤ page_bytes }
         requires may { MayUse (page.0 ∷ []) 0 (length bytes.now + write_head) (state self.old) }
         ensures written { OnOk result ((state self.new).told
             ≡ option_map (λ pages. written pages page.0 at bytes.now) (state self.old).told) }
-        ensures writes { OnOk result (AddsWrite page.0 at bytes.now (state self.old) (state self.new)) }
-        ensures uses { Uses state stays (page.0 ∷ []) 0 (length bytes.now + write_head) self.old self.new }
+        ensures writes { OnOk result (AddsWrite page.0 at bytes.now (state self.old)
+            (state self.new)) }
+        ensures uses { Uses state stays (page.0 ∷ []) 0 (length bytes.now + write_head) self.old
+            self.new }
         ensures cause { HasCause (state self.old).faults (state self.new).faults result }
         ensures plain { FailsPlainly result };
 }

@@ -31,7 +31,8 @@ pub fn fill_fields(bytes: &mut [u8], table: &[FieldValue])
 fn fill_field(bytes: &mut [u8], field: FieldValue)
     requires { (field_of field).at + (field_of field).width ≤ length bytes.old }
     ensures len { length bytes.new ≡ length bytes.old }
-    ensures sets { let f = field_of field in SetsField 0 f.at f.width f.value (bytes.old ∷ []) (bytes.new ∷ []) }
+    ensures sets { let f = field_of field in SetsField 0 f.at f.width f.value (bytes.old ∷ [])
+        (bytes.new ∷ []) }
 {
     match field {
         FieldValue::One(at, value) => put(bytes, at, 1, u64::from(value)),

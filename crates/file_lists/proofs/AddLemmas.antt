@@ -34,6 +34,7 @@ module _ {T : Type 0} {state : T → PageState} {stays : T → T → Type 0} (ad
   pub uses7 : stays s s → (a b d e f i j : T) → Uses state stays (base ∷ []) 0 0 s a → Uses state stays (base ∷ []) 0 0 a b → Uses state stays (q ∷ []) 0 14 b d → Uses state stays (node ∷ []) 0 14 d e → Uses state stays (node ∷ []) 0 14 e f → Uses state stays (base ∷ []) 0 14 f i → Uses state stays (base ∷ []) 0 12 i j → Reaches state stays near (node ∷ base ∷ []) 1 68 s j
   uses7 still a b d e f i j u1 u2 u3 u4 u5 u6 u7 = uses_in add near (node ∷ base ∷ []) (base ∷ []) 1 56 12 s i j (within_two node base []) (uses6 still a b d e f i u1 u2 u3 u4 u5 u6) u7
 
+-- links and base set for a node, and the count raised by one, put it in front of the list
 pub adds_first : (t2 t3 t4 t5 t6 t7 : Option Pages) (pages : Pages) (base node : Address) (nodes : List Address) (x : Option Address) (n : ℕ)
     → t2 ≡ Some pages → IsList pages base nodes → IsNodePlace (length pages) node → IsApartFromAll (list_spans base nodes) (node_span node) → x ≡ first_of nodes → n ≡ length nodes
     → Told (SetsAddress (back_place base x).page (back_place base x).at node) t2 t3
@@ -52,6 +53,7 @@ adds_first t2 t3 t4 t5 t6 t7 pages base node nodes x n is list place apart link 
     let r = added_first pages b1.0 b2.0 b3.0 b4.0 b5.0 base node nodes list place apart (subst P link b1.2) b2.2 (subst Q link b3.2) b4.2 (subst R len b5.2) in
     (b5.0, b5.1, record { list = r.0; outside = r.1 })
 
+-- the same for a node put behind the last
 pub adds_last : (t2 t3 t4 t5 t6 t7 : Option Pages) (pages : Pages) (base node : Address) (nodes : List Address) (x : Option Address) (n : ℕ)
     → t2 ≡ Some pages → IsList pages base nodes → IsNodePlace (length pages) node → IsApartFromAll (list_spans base nodes) (node_span node) → x ≡ last_of nodes → n ≡ length nodes
     → Told (SetsAddress (on_place base x).page (on_place base x).at node) t2 t3

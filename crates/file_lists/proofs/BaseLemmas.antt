@@ -20,6 +20,7 @@ made pages count base bytes whole place len has =
     let S : ℕ → Type 0 = λ n. SameOutside (span base.page base.at n ∷ []) pages (written pages base.page base.at bytes) in
     record { list = base_written pages base.page base.at bytes fits len has; outside = subst S len (written_outside pages base.page base.at bytes fits) }
 
+-- the bytes of a base written at its place make a list without nodes, where pages are told
 pub made_told : (old new : Option Pages) (count : ℕ) (base : Address) (bytes : List ℕ) → ((pages : Pages) → old ≡ Some pages → AreWhole pages count) → IsBasePlace count base
     → length bytes ≡ 16 → HasFields (bytes ∷ []) 0 (base_fields 0) → new ≡ option_map (λ pages. written pages base.page base.at bytes) old → Told (MakesBase base) old new
 made_told None new count base bytes whole place len has is = is

@@ -50,6 +50,7 @@ after_on p1 p2 p3 p4 p5 base node before n apart s2 s3 s4 s5 =
       stays_beside base.page base.at 4 n p4 p5 base.page (base.at + 10) s5 (inr (inr (omega arith))) ∙ s4.here,
     )
 
+-- links and base set for a node, and the count raised, put it last, and nothing else changes
 pub added_last : (p0 p1 p2 p3 p4 p5 : Pages) (base node : Address) (nodes : List Address)
     → IsList p0 base nodes → IsNodePlace (length p0) node → IsApartFromAll (list_spans base nodes) (node_span node)
     → SetsAddress (on_place base (last_of nodes)).page (on_place base (last_of nodes)).at node p0 p1

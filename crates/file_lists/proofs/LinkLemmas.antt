@@ -23,6 +23,7 @@ link_read (Ok link) told count page at pages x few is value place allowed there 
     let P : Option Pages → Type 0 = λ o. IfSome o (λ ps. or_null (link_of link) ≡ address_at ps page at) in
     same_link (link_of link) x count few (some_place link count place) allowed (subst P is value ∙ there)
 
+-- a read of a link that may stand in a list has no fault but the device's
 pub plain_read : (r : Result (Option Addr) Fault) (told : Option Pages) (count page at : ℕ) (pages : Pages) (x : Option Address) → told ≡ Some pages
     → IfSome told (λ ps. IsLink count (address_at ps page at) → FailsPlainly r) → IfSome x (IsNodePlace count) → address_at pages page at ≡ or_null x → FailsPlainly r
 plain_read r told count page at pages x is never allowed there =
@@ -47,6 +48,7 @@ next_link pages base node before behind count whole list =
 pub at_told : (o : Option Pages) (Q : Pages → Type 0) (pages : Pages) → o ≡ Some pages → IfSome o Q → Q pages
 at_told o Q pages is fact = let P : Option Pages → Type 0 = λ p. IfSome p Q in subst P is fact
 
+-- a place that a node may have by the count is one that it may have in pages of that count
 pub place_told : (pages : Pages) (count : ℕ) (a : Address) → AreWhole pages count → IsNodePlace count a → IsNodePlace (length pages) a
 place_told pages count a whole place = record { page = omega (arith, whole.many, place.page); within = place.within }
 

@@ -31,6 +31,7 @@ module _ {T : Type 0} {state : T → PageState} {stays : T → T → Type 0} (ad
   pub uses6 : stays s s → (a b d e f i : T) → Uses state stays (base ∷ []) 0 0 s a → Uses state stays (node ∷ []) 0 0 a b → Uses state stays (node ∷ []) 0 0 b d → Uses state stays (q ∷ []) 0 14 d e → Uses state stays (r ∷ []) 0 14 e f → Uses state stays (base ∷ []) 0 12 f i → Reaches state stays near (node ∷ base ∷ []) 2 40 s i
   uses6 still a b d e f i u1 u2 u3 u4 u5 u6 = uses_in add near (node ∷ base ∷ []) (base ∷ []) 2 28 12 s f i (within_two node base []) (uses5 still a b d e f u1 u2 u3 u4 u5) u6
 
+-- links led past a node, and the count lowered by one, take the node out of its list
 pub removes : (t3 t4 t5 t6 : Option Pages) (pages : Pages) (base node : Address) (xs ys : List Address) (x y : Option Address) (n : ℕ)
     → t3 ≡ Some pages → IsList pages base (xs ++ node ∷ ys) → x ≡ last_of xs → y ≡ first_of ys → n ≡ length (xs ++ node ∷ ys)
     → Told (SetsAddress (on_place base x).page (on_place base x).at (or_null y)) t3 t4 → Told (SetsAddress (back_place base y).page (back_place base y).at (or_null x)) t4 t5 → Told (SetsField base.page base.at 4 (n - 1)) t5 t6

@@ -11,11 +11,14 @@ use Rattle.file_lists.proofs.NearLemmas.{may_front, may_back, may_node}
 pub ample : (named : List ℕ) (others bytes : ℕ) (m : MemPages) → length named + others ≤ 16 → bytes ≤ 262_138 → MayUse named others bytes (page_state m)
 ample named others bytes m few short = record { pins = omega (arith, different_append named []); room = short }
 
+-- pages in memory have room for a call near the first node of a list
 pub ample_front : (base : Address) (named : List ℕ) (bytes : ℕ) (m : MemPages) → length named + 1 ≤ 16 → bytes ≤ 262_138 → MayReach (near_front (page_state m) base) named 1 bytes (page_state m)
 ample_front base named bytes m few short = may_front (page_state m) base named bytes (ample named 1 bytes m few short)
 
+-- and for one near the last
 pub ample_back : (base : Address) (named : List ℕ) (bytes : ℕ) (m : MemPages) → length named + 1 ≤ 16 → bytes ≤ 262_138 → MayReach (near_back (page_state m) base) named 1 bytes (page_state m)
 ample_back base named bytes m few short = may_back (page_state m) base named bytes (ample named 1 bytes m few short)
 
+-- and for one near any node, with two pages more than the named ones
 pub ample_node : (node : Address) (named : List ℕ) (bytes : ℕ) (m : MemPages) → length named + 2 ≤ 16 → bytes ≤ 262_138 → MayReach (near_node (page_state m) node) named 2 bytes (page_state m)
 ample_node node named bytes m few short = may_node (page_state m) node named bytes (ample named 2 bytes m few short)

@@ -1,7 +1,8 @@
 -- What a change of a list does to the pages.
 --     IsElsewhere      a node that has no byte in common with the list
 --     MakesBase      the base leads to no nodes, and no byte outside it is changed
---     ChangesList      afterwards the base leads to these nodes, and no byte outside the list is changed
+--     ChangesList      afterwards the base leads to these nodes, and no byte outside the list is
+--                      changed
 use Rattle.std.specs.Prelude.{List, [], ◌∷◌}
 use Rattle.page_model.specs.Pages.{Pages, Address}
 use Rattle.page_model.specs.Spans.{IsApartFromAll, SameOutside}

@@ -1,8 +1,11 @@
--- When a call on a list may answer that a field holds a value which isn't allowed there: it names a field that the call
--- read, and the value that stood there as the call began.
---     IsOddLink      the address there is neither null nor a node's place, and this part of it is at fault
---     IsFull, IsBare      the length lets no node in; the length says that there is none to take out
---     IsOddAtFront, IsOddAtBack, IsOddAround      what adding a node at either end, and taking one out, may name
+-- When a call on a list may answer that a field holds a value which isn't allowed there: it names a
+-- field that the call read, and the value that stood there as the call began.
+--     IsOddLink      the address there is neither null nor a node's place, and this part of it is
+--                    at fault
+--     IsFull, IsBare      the length lets no node in; the length says that there is none to take
+--                         out
+--     IsOddAtFront, IsOddAtBack, IsOddAround      what adding a node at either end, and taking one
+--          out, may name
 use Rattle.std.specs.Prelude.{◌≡◌, ◌⊎◌, ℕ, ◌+◌, ◌<◌, IfSome, Option}
 use Rattle.page_model.specs.Pages.{Pages, field, Address, address_at, null_page}
 use Rattle.page_model.specs.Lists.{IsLink}
@@ -16,7 +19,8 @@ use Rattle.file_lists.specs.declared.layout.TheConstants.{FIRST, LAST, NEXT, MAX
 abbrev pub IsLinkPage : ℕ → ℕ → Type 0
 IsLinkPage count n = (n < count) ⊎ (n ≡ null_page)
 
--- the page is neither a page nor null; or it is one of these, and the offset is none that goes with it
+-- the page is neither a page nor null; or it is one of these, and the offset is none that goes with
+-- it
 abbrev pub IsOddPart : ℕ → ℕ → Address → ℕ → ℕ → Type 0
 IsOddPart count at there at' value =
     ((at' ≡ at) × (value ≡ there.page) × (¬ (IsLinkPage count there.page)))
@@ -25,7 +29,8 @@ IsOddPart count at there at' value =
 -- a fault names the part of this address that is odd
 abbrev pub NamesPart : ℕ → ℕ → ℕ → Address → Fault → Type 0
 NamesPart count page at there Device = ⊥
-NamesPart count page at there (Strange page' at' value) = (page'.0 ≡ page) × IsOddPart count at there at' value
+NamesPart count page at there (Strange page' at' value) =
+    (page'.0 ≡ page) × IsOddPart count at there at' value
 
 -- an odd part of the address that stands there
 pub record IsOddLink (told : Option Pages) (count page at page' at' value : ℕ) : Type 0 where
@@ -50,13 +55,16 @@ pub record IsBare (told : Option Pages) (base : Address) (page at value : ℕ) :
 
 abbrev pub IsOddAtFront : PageState → Address → Oddity
 IsOddAtFront s base page at value =
-    IsFull s.told base page at value ⊎ IsOddLink s.told s.count base.page (base.at + FIRST) page at value
+    IsFull s.told base page at value
+    ⊎ IsOddLink s.told s.count base.page (base.at + FIRST) page at value
 
 abbrev pub IsOddAtBack : PageState → Address → Oddity
 IsOddAtBack s base page at value =
-    IsFull s.told base page at value ⊎ IsOddLink s.told s.count base.page (base.at + LAST) page at value
+    IsFull s.told base page at value
+    ⊎ IsOddLink s.told s.count base.page (base.at + LAST) page at value
 
 abbrev pub IsOddAround : PageState → Address → Address → Oddity
 IsOddAround s base node page at value =
     IsBare s.told base page at value
-    ⊎ (IsOddLink s.told s.count node.page node.at page at value ⊎ IsOddLink s.told s.count node.page (node.at + NEXT) page at value)
+    ⊎ (IsOddLink s.told s.count node.page node.at page at value
+    ⊎ IsOddLink s.told s.count node.page (node.at + NEXT) page at value)

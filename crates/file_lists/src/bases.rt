@@ -14,7 +14,8 @@ use engine_base::{Addr, Fault, NULL_PAGE, Pages, fill_fields};
 pub fn make_base<P: Pages>(p: &mut P, base: Addr) -> Result<(), Fault>
     requires base { IsBasePlace (P.state p.old).count (address_of base) }
     requires may { MayUse (base.page.0 ∷ []) 0 (16 + write_head) (P.state p.old) }
-    ensures makes { OnOk result (Told (MakesBase (address_of base)) (P.state p.old).told (P.state p.new).told) }
+    ensures makes { OnOk result (Told (MakesBase (address_of base)) (P.state p.old).told
+        (P.state p.new).told) }
     ensures uses { Uses P.state P.stays (base.page.0 ∷ []) 0 (16 + write_head) p.old p.new }
     ensures cause { HasCause (P.state p.old).faults (P.state p.new).faults result }
     ensures plain { FailsPlainly result }

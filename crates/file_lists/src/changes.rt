@@ -1,5 +1,5 @@
-// Nodes put into a list at either end, and taken out of it anywhere. Each call reads what it needs and judges it before
-// its first write.
+// Nodes put into a list at either end, and taken out of it anywhere. Each call reads what it needs
+// and judges it before its first write.
 ghost use Rattle.std.specs.Prelude.{◌≡◌, ◌+◌, ◌*◌, ◌<◌, ◌^◌, ℕ, List, [], ◌∷◌, ◌++◌, length, Some, IfErr, OnOk};
 ghost use Rattle.page_model.specs.Pages.{Pages, Address};
 ghost use Rattle.page_model.specs.Lists.{IsBasePlace, IsNodePlace, IsList, IfListed};
@@ -14,8 +14,9 @@ use crate::layout::{FIRST, LAST, MAX_LENGTH, NEXT};
 use crate::links::{point_back, point_on, read_link, write_link};
 use engine_base::{Addr, Fault, Pages, read_field, strange, write_field};
 
-/// Puts a node that is in no list in front of this one. Besides the pages named it touches that of the node which was
-/// the first, and it writes 28 bytes in five writes. A list of 4,294,967,295 nodes takes no other.
+/// Puts a node that is in no list in front of this one. Besides the pages named it touches that of
+/// the node which was the first, and it writes 28 bytes in five writes. A list of 4,294,967,295
+/// nodes takes no other.
 pub fn add_first<P: Pages>(p: &mut P, base: Addr, node: Addr) -> Result<(), Fault>
     requires base { IsBasePlace (P.state p.old).count (address_of base) }
     requires node { IsNodePlace (P.state p.old).count (address_of node) }
@@ -48,8 +49,9 @@ pub fn add_first<P: Pages>(p: &mut P, base: Addr, node: Addr) -> Result<(), Faul
     Ok(())
 }
 
-/// Puts a node that is in no list behind this one. Besides the pages named it touches that of the node which was the
-/// last, and it writes 28 bytes in five writes. A list of 4,294,967,295 nodes takes no other.
+/// Puts a node that is in no list behind this one. Besides the pages named it touches that of the
+/// node which was the last, and it writes 28 bytes in five writes. A list of 4,294,967,295 nodes
+/// takes no other.
 pub fn add_last<P: Pages>(p: &mut P, base: Addr, node: Addr) -> Result<(), Fault>
     requires base { IsBasePlace (P.state p.old).count (address_of base) }
     requires node { IsNodePlace (P.state p.old).count (address_of node) }
@@ -57,7 +59,8 @@ pub fn add_last<P: Pages>(p: &mut P, base: Addr, node: Addr) -> Result<(), Fault
         (node.page.0 ∷ base.page.0 ∷ []) 1 (28 + 5 * write_head) (P.state p.old) }
     ensures adds { IfListed (P.state p.old).told (address_of base) (λ pages nodes.
         IsElsewhere (address_of base) nodes (address_of node) → length nodes + 1 < 2 ^ 32
-        → OnOk result (Becomes (P.state p.new).told (λ new. let all = nodes ++ address_of node ∷ [] in
+        → OnOk result (Becomes (P.state p.new).told
+        (λ new. let all = nodes ++ address_of node ∷ [] in
         ChangesList (address_of base) all all pages new))) }
 
     // Strange names the length, or the address of the last node, as either stood at the call.
@@ -82,22 +85,27 @@ pub fn add_last<P: Pages>(p: &mut P, base: Addr, node: Addr) -> Result<(), Fault
     Ok(())
 }
 
-/// Takes the node out of the list that it is in. Its own bytes stay. Besides the pages named it touches those of its
-/// two neighbours, and it writes 16 bytes in three writes.
+/// Takes the node out of the list that it is in. Its own bytes stay. Besides the pages named it
+/// touches those of its two neighbours, and it writes 16 bytes in three writes.
 pub fn remove<P: Pages>(p: &mut P, base: Addr, node: Addr) -> Result<(), Fault>
     requires base { IsBasePlace (P.state p.old).count (address_of base) }
     requires node { IsNodePlace (P.state p.old).count (address_of node) }
     requires may { MayReach (near_node (P.state p.old) (address_of node))
         (node.page.0 ∷ base.page.0 ∷ []) 2 (16 + 3 * write_head) (P.state p.old) }
-    ensures removes { (pages : Pages) (before behind : List Address) → (P.state p.old).told ≡ Some pages
+    ensures removes { (pages : Pages) (before behind : List Address)
+        → (P.state p.old).told ≡ Some pages
         → IsList pages (address_of base) (before ++ address_of node ∷ behind)
         → OnOk result (Becomes (P.state p.new).told (λ new.
-        ChangesList (address_of base) (before ++ address_of node ∷ behind) (before ++ behind) pages new)) }
+        ChangesList (address_of base) (before ++ address_of node ∷ behind) (before ++ behind) pages
+        new)) }
 
     // Strange names the length, or an address in the node, as each stood at the call.
-    ensures honest { IfErr result (IsHonest (IsOddAround (P.state p.old) (address_of base) (address_of node))) }
-    ensures never { (pages : Pages) (before behind : List Address) → (P.state p.old).told ≡ Some pages
-        → IsList pages (address_of base) (before ++ address_of node ∷ behind) → FailsPlainly result }
+    ensures honest { IfErr result (IsHonest
+        (IsOddAround (P.state p.old) (address_of base) (address_of node))) }
+    ensures never { (pages : Pages) (before behind : List Address)
+        → (P.state p.old).told ≡ Some pages
+        → IsList pages (address_of base) (before ++ address_of node ∷ behind)
+        → FailsPlainly result }
     ensures cause { HasCause (P.state p.old).faults (P.state p.new).faults result }
 
     ensures uses { Reaches P.state P.stays (near_node (P.state p.old) (address_of node))

@@ -1,5 +1,5 @@
-//! Where the fields of a list's base and of a node stand, from its first byte on. Each number is big-endian, and an
-//! address is a page in four bytes and an offset in two.
+//! Where the fields of a list's base and of a node stand, from its first byte on. Each number is
+//! big-endian, and an address is a page in four bytes and an offset in two.
 //!
 //! | Offset | Bytes | Field of a base | Offset | Bytes | Field of a node |
 //! |---|---|---|---|---|---|

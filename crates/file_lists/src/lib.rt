@@ -1,5 +1,5 @@
-//! Doubly linked lists of nodes in pages: a base has the length and both ends, and a node the addresses before and
-//! behind it. A list is its nodes' addresses, from the first to the last.
+//! Doubly linked lists of nodes in pages: a base has the length and both ends, and a node the
+//! addresses before and behind it. A list is its nodes' addresses, from the first to the last.
 #![tactic(auto)]
 
 mod bases;

@@ -12,15 +12,18 @@ ghost use Rattle.file_lists.specs.Strange.{IsOddLink, NamesPart};
 use crate::layout::{FIRST, LAST, MAX_PLACE, NEXT};
 use engine_base::{Addr, Fault, NULL_PAGE, PageNo, Pages, read_address, strange, write_address};
 
-/// The address of a node, or none, in six bytes of a page. Strange where it is neither null nor the place of a node.
+/// The address of a node, or none, in six bytes of a page. Strange where it is neither null nor the
+/// place of a node.
 pub fn read_link<P: Pages>(p: &mut P, page: PageNo, at: u16) -> Result<Option<Addr>, Fault>
     requires page { page.0 < (P.state p.old).count }
     requires within { at + 6 ≤ page_bytes }
     requires may { MayUse (page.0 ∷ []) 0 0 (P.state p.old) }
     ensures value { IfOk result (λ link. IfSome (P.state p.old).told
         (λ pages. or_null (link_of link) ≡ address_at pages page.0 at)) }
-    ensures place { IfOk result (λ link. IfSome link (λ a. IsNodePlace (P.state p.old).count (address_of a))) }
-    ensures honest { IfErr result (IsHonest (IsOddLink (P.state p.old).told (P.state p.old).count page.0 at)) }
+    ensures place { IfOk result (λ link.
+        IfSome link (λ a. IsNodePlace (P.state p.old).count (address_of a))) }
+    ensures honest { IfErr result (IsHonest
+        (IsOddLink (P.state p.old).told (P.state p.old).count page.0 at)) }
     ensures never { IfSome (P.state p.old).told
         (λ pages. IsLink (P.state p.old).count (address_at pages page.0 at) → FailsPlainly result) }
     ensures told { (P.state p.new).told ≡ (P.state p.old).told }
@@ -92,10 +95,13 @@ pub fn point_back<P: Pages>(
 ) -> Result<(), Fault>
     requires base { IsBasePlace (P.state p.old).count (address_of base) }
     requires from { IfSome from (λ a. IsNodePlace (P.state p.old).count (address_of a)) }
-    requires may { MayUse ((back_place (address_of base) (link_of from)).page ∷ []) 0 (6 + write_head) (P.state p.old) }
+    requires may { MayUse ((back_place (address_of base) (link_of from)).page ∷ []) 0
+        (6 + write_head) (P.state p.old) }
     ensures sets { let place = back_place (address_of base) (link_of from) in
-        OnOk result (Told (SetsAddress place.page place.at (or_null (link_of to))) (P.state p.old).told (P.state p.new).told) }
-    ensures uses { Uses P.state P.stays ((back_place (address_of base) (link_of from)).page ∷ []) 0 (6 + write_head) p.old p.new }
+        OnOk result (Told (SetsAddress place.page place.at (or_null (link_of to)))
+        (P.state p.old).told (P.state p.new).told) }
+    ensures uses { Uses P.state P.stays ((back_place (address_of base) (link_of from)).page ∷ []) 0
+        (6 + write_head) p.old p.new }
     ensures cause { HasCause (P.state p.old).faults (P.state p.new).faults result }
     ensures plain { FailsPlainly result }
 {
@@ -114,10 +120,13 @@ pub fn point_on<P: Pages>(
 ) -> Result<(), Fault>
     requires base { IsBasePlace (P.state p.old).count (address_of base) }
     requires from { IfSome from (λ a. IsNodePlace (P.state p.old).count (address_of a)) }
-    requires may { MayUse ((on_place (address_of base) (link_of from)).page ∷ []) 0 (6 + write_head) (P.state p.old) }
+    requires may { MayUse ((on_place (address_of base) (link_of from)).page ∷ []) 0 (6 + write_head)
+        (P.state p.old) }
     ensures sets { let place = on_place (address_of base) (link_of from) in
-        OnOk result (Told (SetsAddress place.page place.at (or_null (link_of to))) (P.state p.old).told (P.state p.new).told) }
-    ensures uses { Uses P.state P.stays ((on_place (address_of base) (link_of from)).page ∷ []) 0 (6 + write_head) p.old p.new }
+        OnOk result (Told (SetsAddress place.page place.at (or_null (link_of to)))
+        (P.state p.old).told (P.state p.new).told) }
+    ensures uses { Uses P.state P.stays ((on_place (address_of base) (link_of from)).page ∷ []) 0
+        (6 + write_head) p.old p.new }
     ensures cause { HasCause (P.state p.old).faults (P.state p.new).faults result }
     ensures plain { FailsPlainly result }
 {

@@ -1,5 +1,6 @@
-// What a list has at its ends, behind a node, and in all. A call reads one field of one page, and tells what it read there
-// (`reads`) whether or not a list stands, so that a caller may judge the address further.
+// What a list has at its ends, behind a node, and in all. A call reads one field of one page, and
+// tells what it read there (`reads`) whether or not a list stands, so that a caller may judge the
+// address further.
 ghost use Rattle.std.specs.Prelude.{◌≡◌, ◌+◌, List, [], ◌∷◌, ◌++◌, length, Some, IfOk, IfErr, IfSome};
 ghost use Rattle.page_model.specs.Pages.{Pages, Address, address_at};
 ghost use Rattle.page_model.specs.Lists.{IsBasePlace, IsNodePlace, IsList, IfListed, first_of, last_of, or_null};
@@ -22,12 +23,15 @@ pub fn first<P: Pages>(p: &mut P, base: Addr) -> Result<Option<Addr>, Fault>
         (λ pages nodes. IfOk result (λ link. link_of link ≡ first_of nodes)) }
     ensures reads { IfOk result (λ link. IfSome (P.state p.old).told
         (λ pages. or_null (link_of link) ≡ address_at pages base.page.0 (base.at + FIRST))) }
-    ensures place { IfOk result (λ link. IfSome link (λ a. IsNodePlace (P.state p.old).count (address_of a))) }
+    ensures place { IfOk result (λ link.
+        IfSome link (λ a. IsNodePlace (P.state p.old).count (address_of a))) }
 
     // Strange names the address that stands there.
     ensures honest { IfErr result
-        (IsHonest (IsOddLink (P.state p.old).told (P.state p.old).count base.page.0 (base.at + FIRST))) }
-    ensures never { IfListed (P.state p.old).told (address_of base) (λ pages nodes. FailsPlainly result) }
+        (IsHonest (IsOddLink (P.state p.old).told (P.state p.old).count base.page.0
+        (base.at + FIRST))) }
+    ensures never { IfListed (P.state p.old).told (address_of base)
+        (λ pages nodes. FailsPlainly result) }
     ensures cause { HasCause (P.state p.old).faults (P.state p.new).faults result }
 
     ensures told { (P.state p.new).told ≡ (P.state p.old).told }
@@ -44,12 +48,15 @@ pub fn last<P: Pages>(p: &mut P, base: Addr) -> Result<Option<Addr>, Fault>
         (λ pages nodes. IfOk result (λ link. link_of link ≡ last_of nodes)) }
     ensures reads { IfOk result (λ link. IfSome (P.state p.old).told
         (λ pages. or_null (link_of link) ≡ address_at pages base.page.0 (base.at + LAST))) }
-    ensures place { IfOk result (λ link. IfSome link (λ a. IsNodePlace (P.state p.old).count (address_of a))) }
+    ensures place { IfOk result (λ link.
+        IfSome link (λ a. IsNodePlace (P.state p.old).count (address_of a))) }
 
     // Strange names the address that stands there.
     ensures honest { IfErr result
-        (IsHonest (IsOddLink (P.state p.old).told (P.state p.old).count base.page.0 (base.at + LAST))) }
-    ensures never { IfListed (P.state p.old).told (address_of base) (λ pages nodes. FailsPlainly result) }
+        (IsHonest (IsOddLink (P.state p.old).told (P.state p.old).count base.page.0
+        (base.at + LAST))) }
+    ensures never { IfListed (P.state p.old).told (address_of base)
+        (λ pages nodes. FailsPlainly result) }
     ensures cause { HasCause (P.state p.old).faults (P.state p.new).faults result }
 
     ensures told { (P.state p.new).told ≡ (P.state p.old).told }
@@ -62,17 +69,21 @@ pub fn last<P: Pages>(p: &mut P, base: Addr) -> Result<Option<Addr>, Fault>
 pub fn next<P: Pages>(p: &mut P, node: Addr) -> Result<Option<Addr>, Fault>
     requires node { IsNodePlace (P.state p.old).count (address_of node) }
     requires may { MayUse (node.page.0 ∷ []) 0 0 (P.state p.old) }
-    ensures value { (pages : Pages) (base : Address) (before behind : List Address) → (P.state p.old).told ≡ Some pages
+    ensures value { (pages : Pages) (base : Address) (before behind : List Address)
+        → (P.state p.old).told ≡ Some pages
         → IsList pages base (before ++ address_of node ∷ behind)
         → IfOk result (λ link. link_of link ≡ first_of behind) }
     ensures reads { IfOk result (λ link. IfSome (P.state p.old).told
         (λ pages. or_null (link_of link) ≡ address_at pages node.page.0 (node.at + NEXT))) }
-    ensures place { IfOk result (λ link. IfSome link (λ a. IsNodePlace (P.state p.old).count (address_of a))) }
+    ensures place { IfOk result (λ link.
+        IfSome link (λ a. IsNodePlace (P.state p.old).count (address_of a))) }
 
     // Strange names the address that stands there.
     ensures honest { IfErr result
-        (IsHonest (IsOddLink (P.state p.old).told (P.state p.old).count node.page.0 (node.at + NEXT))) }
-    ensures never { (pages : Pages) (base : Address) (before behind : List Address) → (P.state p.old).told ≡ Some pages
+        (IsHonest (IsOddLink (P.state p.old).told (P.state p.old).count node.page.0
+        (node.at + NEXT))) }
+    ensures never { (pages : Pages) (base : Address) (before behind : List Address)
+        → (P.state p.old).told ≡ Some pages
         → IsList pages base (before ++ address_of node ∷ behind) → FailsPlainly result }
     ensures cause { HasCause (P.state p.old).faults (P.state p.new).faults result }
 

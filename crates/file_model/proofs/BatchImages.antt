@@ -16,9 +16,11 @@ use Rattle.file_model.proofs.BatchLemmas.{copied_same, homes_same, homes_others,
 
 -- ---- the armed byte
 
+-- where the armed byte is odd, the batch of the header is armed
 pub armed_odd : (l : Layout) (file : List ℕ) → is_odd (slice_index file armed_place) ≡ true → armed l file ≡ header_batch l file
 armed_odd l file odd = ap (λ (t : Bool). if t then header_batch l file else []) odd
 
+-- where it is even, no batch is
 pub armed_even : (l : Layout) (file : List ℕ) → is_odd (slice_index file armed_place) ≡ false → armed l file ≡ []
 armed_even l file even = ap (λ (t : Bool). if t then header_batch l file else []) even
 

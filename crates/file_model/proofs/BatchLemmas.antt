@@ -7,7 +7,7 @@ use Rattle.std.proofs.lemmas.List.FromFn.{fill_by_all, get_or-map-range_with_len
 use Rattle.byteorder.specs.Endian.{big_number}
 use Rattle.page_model.specs.Pages.{Pages, page_bytes, page_at}
 use Rattle.file_model.specs.declared.layout.Layout.{Layout}
-use Rattle.file_model.specs.Sections.{part, count_place, image_place, greatest_batch, page_place, wanted, logs_place}
+use Rattle.file_model.specs.Sections.{part, count_place, image_place, max_batch, page_place, wanted, logs_place}
 use Rattle.file_model.specs.Changes.{SameElsewhere, Range}
 use Rattle.file_model.specs.Doublewrite.{Batch, numbers, copied, IsNamed, SameButPages, count_in, number_in, image_in, batch_in, are_below, header_batch, homes, InPages}
 use Rattle.file_model.proofs.PartLemmas.{part_same}
@@ -56,10 +56,12 @@ map_range_same : {X : Type 0} (f g : ℕ → X) (n : ℕ) (d : X) → ((i : ℕ)
 map_range_same f g n d same =
     fill_by_all g (map f (range_with_len 0 n)) n d (length-map-range_with_len f 0 n) (λ k low. get_or-map-range_with_len f 0 n k k d low (omega arith) ∙ same k low)
 
+-- a file has as many pages at their places as the layout tells
 pub length-homes : (l : Layout) (file : List ℕ) → length (homes l file) ≡ l.pages
 unfolding homes
 length-homes l file = length-map-range_with_len (λ n. part file (page_place l n) page_bytes) 0 l.pages
 
+-- page n of a file is the part of it at the page's place
 pub page_at-homes : (l : Layout) (file : List ℕ) (n : ℕ) → n < l.pages → page_at (homes l file) n ≡ part file (page_place l n) page_bytes
 unfolding homes
 page_at-homes l file n low = get_or-map-range_with_len (λ n. part file (page_place l n) page_bytes) 0 l.pages n n [] low (omega arith)
@@ -99,6 +101,7 @@ batch_same old new n few same =
     map_range_same (λ i. (number_in new i, image_in new i)) (λ i. (number_in old i, image_in old i)) n (0, []) λ i low.
     ap₂ (λ (x : ℕ) (y : List ℕ). (x, y)) (ap (big_number 4) (same (count_place + 4 + 4 * i) 4 (omega arith) (omega arith))) (same (image_place i) page_bytes (omega arith) (omega arith))
 
+-- where the area of the batch is the same, the batch of the header is
 pub header_same : (l : Layout) (old new : List ℕ) → SameArea old new → header_batch l new ≡ header_batch l old
 unfolding header_batch
 header_same l old new same =
@@ -106,8 +109,8 @@ header_same l old new same =
     elim (cases_lt 32 (count_in old)) [
       | inl many ↦ none new (omega (arith, count)) ∙ sym (none old many)
       | inr few ↦ let batches : batch_in new (count_in new) ≡ batch_in old (count_in old) = ap (batch_in new) count ∙ batch_same old new (count_in old) few same in
-          ap₂ (λ (n : ℕ) (b : Batch). if nat_le n greatest_batch && are_below l.pages b then b else []) count batches
+          ap₂ (λ (n : ℕ) (b : Batch). if nat_le n max_batch && are_below l.pages b then b else []) count batches
     ]
   where
-    none : (file : List ℕ) → 32 < count_in file → (if nat_le (count_in file) greatest_batch && are_below l.pages (batch_in file (count_in file)) then batch_in file (count_in file) else []) ≡ []
+    none : (file : List ℕ) → 32 < count_in file → (if nat_le (count_in file) max_batch && are_below l.pages (batch_in file (count_in file)) then batch_in file (count_in file) else []) ≡ []
     none file many = ap (λ (t : Bool). if t && are_below l.pages (batch_in file (count_in file)) then batch_in file (count_in file) else []) (lt-leb (count_in file) 32 many)

@@ -29,6 +29,7 @@ frames_all gs = record { groups = gs; whole = true }
 
 -- ---- the last gate
 
+-- where a log doesn't end early, a closed gate stands at its end
 pub gate_closed : (n pages : ℕ) (r : LogRead) (bytes : List ℕ) → length bytes ≤ n → log_from n pages bytes ≡ r → r.early ≡ false → is_odd (slice_index bytes r.used) ≡ false
 gate_closed zero pages r [] few is on = ap (λ (t : LogRead). is_odd (slice_index [] t.used)) (sym is)
 gate_closed zero pages r (b ∷ bytes) few is on = absurd (omega arith)
@@ -59,14 +60,17 @@ gate_within (suc n) pages r bytes some few is on = elim (log_begins n pages byte
 
 -- ---- what stands behind a gate
 
+-- bytes that begin with a closed gate read as the end of a log
 pub shut_reads : (pages : ℕ) (bytes : List ℕ) → is_odd (slice_index bytes 0) ≡ false → log_in pages bytes ≡ log_end
 unfolding log_in
 shut_reads pages bytes shut = at_closed (length bytes) pages bytes shut
 
+-- a log that doesn't end early, followed by the end of a log, is itself
 pub followed_end : (r : LogRead) → r.early ≡ false → followed r log_end ≡ r
 followed_end r on =
     ap₂ (λ (gs : List Group) (k : ℕ). log_read gs k false) (append-nil r.groups) (omega arith) ∙ ap (log_read r.groups r.used) (sym on)
 
+-- what stands behind a block's gate has five bytes more than the groups' frames
 pub length-block : (gs : List Group) → length (block_bytes gs) ≡ 5 + length (frames_bytes gs)
 length-block gs =
     let len = length (frames_bytes gs) in

@@ -13,6 +13,7 @@ use Rattle.page_model.proofs.GroupFrameLemmas.{all_small, frame_read, length-fra
 use Rattle.page_model.proofs.ParseLemmas.{frame_parts}
 use Rattle.file_model.specs.Frames.{Group, frames_bytes, is_inside, is_frame, first_bytes, found, no_frame, frames_from, frames_of, IsLoggable}
 
+-- with a group more, its frame stands behind those of the others
 pub frames_more : (gs : List Group) (g : Group) → frames_bytes (gs ++ g ∷ []) ≡ frames_bytes gs ++ frame_bytes g
 frames_more [] g = append-nil (frame_bytes g)
 frames_more (h ∷ gs) g = ap (λ (t : List ℕ). frame_bytes h ++ t) (frames_more gs g) ∙ sym (append_assoc (frame_bytes h) (frames_bytes gs) (frame_bytes g))
@@ -20,6 +21,7 @@ frames_more (h ∷ gs) g = ap (λ (t : List ℕ). frame_bytes h ++ t) (frames_mo
 inside_wider : (pages : ℕ) (ws : List Write) → pages ≤ 2 ^ 32 → All (IsInside pages) ws → All (IsInside (2 ^ 32)) ws
 inside_wider pages ws few inside = λ i d low. let one = inside i d low in record { page = omega (arith, one.page, few); within = one.within }
 
+-- the writes read in a loggable group's frame are the group
 pub loggable_read : (pages : ℕ) (g : Group) → pages ≤ 2 ^ 32 → IsLoggable pages g → writes_in (frame_bytes g) ≡ g
 loggable_read pages g few is = frame_read g (all_small g (inside_wider pages g few is.inside)) is.short
 
@@ -29,6 +31,7 @@ all_inside pages (w ∷ ws) inside =
     let one = inside 0 w (omega arith) in
     and_from _ _ (and_from _ _ (lt-ltb _ _ one.page) (le-leb _ _ one.within)) (all_inside pages ws (All-tail (IsInside pages) w ws inside))
 
+-- a loggable group's frame passes the test for frames
 pub loggable_frame : (pages : ℕ) (g : Group) → pages ≤ 2 ^ 32 → IsLoggable pages g → is_frame pages (frame_bytes g) ≡ true
 loggable_frame pages g few is =
     let back = loggable_read pages g few is in
@@ -61,6 +64,7 @@ frames_read (suc n) pages (g ∷ gs) few good enough =
     ∙ ap₂ (λ (h : Group) (t : List ℕ). found h (frames_from n pages t)) (loggable_read pages g few is) (drop_at (frame_bytes g) (frames_bytes gs) (length (frame_bytes g)) refl)
     ∙ ap (found g) (frames_read n pages gs few (All-tail (IsLoggable pages) g gs good) (omega arith))
 
+-- the frames of loggable groups are read as these groups, with nothing left over
 pub frames_back : (pages : ℕ) (gs : List Group) → pages ≤ 2 ^ 32 → All (IsLoggable pages) gs → frames_of pages (frames_bytes gs) ≡ record { groups = gs; whole = true }
 unfolding frames_of
 frames_back pages gs few good = frames_read (length (frames_bytes gs)) pages gs few good (omega arith)

@@ -72,6 +72,7 @@ inside_at pages (w ∷ ws) all =
     let both = and_parts _ _ (and_parts _ _ all).0 in
     All-cons (IsInside pages) w ws (record { page = ltb-true _ _ both.0; within = leb-true _ _ both.1 }) (inside_at pages ws (and_parts _ _ all).1)
 
+-- the pages at their places in a file of the whole length are of full size, and all there
 pub homes_whole : (l : Layout) (file : List ℕ) → wanted l ≤ length file → AreWhole (homes l file) l.pages
 homes_whole l file long = record {
   many = length-homes l file;
@@ -112,6 +113,7 @@ frame_holds pages bytes good =
     let first = and_parts _ _ both.0 in
     (writes_in bytes, record { frame = (bytes_eq-Decides bytes (frame_bytes (writes_in bytes))).0 first.0; short = leb-true _ _ first.1; inside = inside_at pages (writes_in bytes) both.1 })
 
+-- bytes that hold a frame within the pages pass the test for frames
 pub holds_frame : (pages : ℕ) (bytes : List ℕ) → pages ≤ 2 ^ 32 → HoldsFrame pages bytes → is_frame pages bytes ≡ true
 holds_frame pages bytes few (ws, is) =
     let short = is.short in

@@ -54,12 +54,15 @@ pub record IsBlock (pages : ℕ) (bytes : List ℕ) : Type 0 where
   pub fits : 6 + frames_len bytes ≤ length bytes
   pub whole : (frames_of pages (part bytes 5 (frames_len bytes))).whole ≡ true
 
+-- the bytes from the next gate on, behind the first block
 abbrev pub behind : List ℕ → List ℕ
 behind bytes = drop (5 + frames_len bytes) bytes
 
+-- the groups and the length of the first block, in front of what is read behind it
 abbrev pub block_then : ℕ → List ℕ → LogRead → LogRead
 block_then pages bytes t = record { groups = (frames_of pages (part bytes 5 (frames_len bytes))).groups ++ t.groups; used = 5 + frames_len bytes + t.used; early = t.early }
 
+-- a whole open block reads as its groups and length in front of what is read behind it
 pub block_reads : (pages : ℕ) (next : List ℕ → LogRead) (bytes : List ℕ) → IsBlock pages bytes → block_from pages next bytes ≡ block_then pages bytes (next (behind bytes))
 block_reads pages next bytes is =
     ap (λ (t : Bool). if t then joined (frames_of pages (part bytes 5 (frames_len bytes))) (5 + frames_len bytes) (next (behind bytes)) else ends_early []) (le-leb _ _ is.fits)
@@ -116,6 +119,7 @@ block_kept pages u old new is inner same long =
       body,
     )
 
+-- what was read of a log, from its parts
 abbrev pub log_read : List Group → ℕ → Bool → LogRead
 log_read gs k early = record { groups = gs; used = k; early = early }
 

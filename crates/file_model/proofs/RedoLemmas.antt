@@ -76,6 +76,7 @@ writes_again (w ∷ ws) p q f fit is between =
 
 -- ---- groups
 
+-- the writes of all groups, one behind another
 abbrev pub flat : List Group → List Write
 flat [] = []
 flat (g ∷ gs) = g ++ flat gs
@@ -84,6 +85,7 @@ all_written_then : (xs ys : List Write) (p : Pages) → all_written (xs ++ ys) p
 all_written_then [] ys p = refl
 all_written_then (x ∷ xs) ys p = all_written_then xs ys (written p x.page x.at x.bytes)
 
+-- groups are applied by making all their writes, one behind another
 pub applied_flat : (gs : List Group) (p : Pages) → applied gs p ≡ all_written (flat gs) p
 applied_flat [] p = refl
 applied_flat (g ∷ gs) p = applied_flat gs (all_written g p) ∙ sym (all_written_then g (flat gs) p)

@@ -6,7 +6,7 @@ use Rattle.byteorder.specs.Endian.{big_number}
 use Rattle.page_model.specs.Pages.{Pages, page_bytes, page_at}
 use Rattle.file_model.specs.declared.layout.Layout.{Layout}
 use Rattle.file_model.specs.Changes.{Range}
-use Rattle.file_model.specs.Sections.{part, armed_place, count_place, image_place, greatest_batch, page_place}
+use Rattle.file_model.specs.Sections.{part, armed_place, count_place, image_place, max_batch, page_place}
 
 abbrev pub is_odd : ℕ → Bool
 is_odd n = n % 2 == 1
@@ -59,7 +59,7 @@ are_below pages batch = list_all (λ b. nat_lt b.0 pages) batch
 -- The batch of a header. One whose count is over 32, or that names a page which the store doesn't
 -- have, counts for nothing.
 unfoldable pub header_batch : Layout → List ℕ → Batch
-header_batch l file = if nat_le (count_in file) greatest_batch
+header_batch l file = if nat_le (count_in file) max_batch
     && are_below l.pages (batch_in file (count_in file)) then batch_in file (count_in file) else []
 
 -- the batch that is armed

@@ -3,7 +3,7 @@ use Rattle.std.specs.Prelude.{ℕ, zero, suc, ◌+◌, Bool, true, false, ◌&&�
 use Rattle.std.specs.List.{list_all}
 use Rattle.byteorder.specs.Endian.{big_number}
 use Rattle.page_model.specs.Pages.{Pages, Write, page_bytes, all_written}
-use Rattle.page_model.specs.Frames.{frame_bytes, greatest_group, writes_in, IsInside}
+use Rattle.page_model.specs.Frames.{frame_bytes, max_group, writes_in, IsInside}
 
 -- the writes of one mini-transaction
 abbrev pub Group : Type 0
@@ -27,7 +27,7 @@ is_inside pages w = nat_lt w.page pages && nat_le (w.at + length w.bytes) page_b
 -- longer than a group may be
 abbrev pub is_frame : ℕ → List ℕ → Bool
 is_frame pages bytes = bytes_eq bytes (frame_bytes (writes_in bytes))
-    && nat_le (length bytes) greatest_group && list_all (is_inside pages) (writes_in bytes)
+    && nat_le (length bytes) max_group && list_all (is_inside pages) (writes_in bytes)
 
 -- as many bytes as the first four tell
 abbrev pub first_bytes : List ℕ → List ℕ
@@ -62,5 +62,5 @@ frames_of pages bytes = frames_from (length bytes) pages bytes
 -- the log can hold this group: its frame is no longer than a group may be, and its writes lie
 -- within the pages
 pub record IsLoggable (pages : ℕ) (g : Group) : Type 0 where
-  pub short : length (frame_bytes g) ≤ greatest_group
+  pub short : length (frame_bytes g) ≤ max_group
   pub inside : All (IsInside pages) g

@@ -2,7 +2,7 @@
 use Rattle.std.specs.Prelude.{◌≡◌, ℕ, ◌≤◌, true, false, List, [], ◌∷◌, slice_index}
 use Rattle.page_model.specs.Pages.{Pages, page_at}
 use Rattle.file_model.specs.declared.layout.Layout.{Layout}
-use Rattle.file_model.specs.Sections.{armed_place, greatest_batch}
+use Rattle.file_model.specs.Sections.{armed_place, max_batch}
 use Rattle.file_model.specs.Control.{live_of, opening, opens}
 use Rattle.file_model.specs.Doublewrite.{Batch, repaired, is_odd, count_in, batch_in, are_below}
 use Rattle.file_model.specs.Frames.{applied}
@@ -17,7 +17,7 @@ recovered l image = applied (log_of l (live_of image) image).groups (repaired l 
 pub record IsWell (l : Layout) (image : List ℕ) : Type 0 where
   pub opened : opening image ≡ opens l
   pub ends : (log_of l (live_of image) image).early ≡ false
-  pub few : is_odd (slice_index image armed_place) ≡ true → count_in image ≤ greatest_batch
+  pub few : is_odd (slice_index image armed_place) ≡ true → count_in image ≤ max_batch
   pub below : is_odd (slice_index image armed_place) ≡ true
       → are_below l.pages (batch_in image (count_in image)) ≡ true
 

@@ -26,8 +26,8 @@ count_place = 4_608
 abbrev pub image_place : ℕ → ℕ
 image_place i = 8_192 + page_bytes * i
 
-abbrev pub greatest_batch : ℕ
-greatest_batch = 32
+abbrev pub max_batch : ℕ
+max_batch = 32
 
 abbrev pub logs_place : ℕ
 logs_place = 532_480
@@ -56,6 +56,6 @@ wanted l = pages_place l + page_bytes * l.pages
 -- the limits of a layout
 pub record IsInLimits (l : Layout) : Type 0 where
   pub few_pages : 16 ≤ l.pages
-  pub most_pages : l.pages ≤ 32_768
+  pub max_pages : l.pages ≤ 32_768
   pub small_log : 1_024 ≤ l.log_kib
   pub large_log : l.log_kib ≤ 65_536

@@ -73,6 +73,7 @@ called_held script s d (Purged c ∷ p) h = called_held script s d p h
 called_held script s d (Audited a ∷ p) h = called_held script s d p h
 called_held script s d (Restart k ∷ p) h = called_held script s d p h
 
+-- a session with a change of its own to a document holds the document's lock
 pub own_held : (script : Script) (s d : ℕ) (past : List Entry) → touches d (own script s past) ≡ true → holds script s d past ≡ true
 own_held script s d past h = called_held script s d (part script s past) h
 

@@ -6,7 +6,7 @@ use Rattle.history_model.proofs.LockLemmas.{eq_is}
 use Rattle.journal_model.specs.Journal.{Script, Statement, Line, say, step, purge, checkpoint, audit, restart, statements}
 use Rattle.journal_model.specs.Locks.{sessions, numbers_from}
 use Rattle.journal_model.specs.Held.{is_in}
-use Rattle.journal_model.specs.ScriptText.{Mode, Cause, utf8, many, turn, word, session, first_word, behind, form_of, runs_on, read_statement, is_marked, begins_with, most_steps, most_statements, is_threads, ◌>>=◌, check, found, number_up_to, session_number, session_text, is_taken, if_built, session_by, said_by, step_by, dotted_by, line_by, lines_by, script_by, at_line, with_statement, is_skipped}
+use Rattle.journal_model.specs.ScriptText.{Mode, Cause, utf8, many, turn, word, session, first_word, behind, form_of, runs_on, read_statement, is_marked, begins_with, max_steps, max_statements, is_threads, ◌>>=◌, check, found, number_up_to, session_number, session_text, is_taken, if_built, session_by, said_by, step_by, dotted_by, line_by, lines_by, script_by, at_line, with_statement, is_skipped}
 use Rattle.journal_model.specs.Built.{Built}
 use Rattle.journal_model.proofs.NumberLemmas.{in_range}
 use Rattle.history_model.specs.Laws.{IsNumbered}
@@ -79,7 +79,7 @@ said table first rest l h =
 
 stepped : (table : Built) (rest : List ℕ) (l : Line) → step_by table rest ≡ ok_of l → IsOfSession l
 stepped table rest l h =
-    found_on (number_up_to most_steps (behind rest)) word (λ n. session_by table (first_word rest) >>= (λ s. Ok (step s n))) l (check_on table.steps word _ l h)
+    found_on (number_up_to max_steps (behind rest)) word (λ n. session_by table (first_word rest) >>= (λ s. Ok (step s n))) l (check_on table.steps word _ l h)
     (λ n e g. session_on table (first_word rest) (λ s. Ok (step s n)) l g (λ s f k. ok_line (step s n) l k tt))
 
 if_on : (b : Bool) (m l : Line) → if_built b m ≡ ok_of l → IsOfSession m → IsOfSession l
@@ -101,7 +101,7 @@ dotted table line l h =
 one_line : (table : Built) (mode : Mode) (count : ℕ) (line : List ℕ) (l : Line) → line_by table mode count line ≡ ok_of l → IsOfSession l
 one_line table mode count line l h =
     let a = check_on (is_utf8 line) utf8 _ l h in
-    let b = check_on (nat_lt count most_statements || begins_with 46 line) many _ l a in
+    let b = check_on (nat_lt count max_statements || begins_with 46 line) many _ l a in
     let c = check_on (not (is_threads mode && begins_with 46 line)) turn _ l b in
     either (begins_with 46 line) (dotted_by table line) (said_by table (first_word line) (behind line)) l c (λ e. dotted table line l e) (λ e. said table (first_word line) (behind line) l e)
 

@@ -9,7 +9,7 @@ use Rattle.journal_model.specs.Built.{alone}
 use Rattle.journal_model.specs.Documents.{Insert, Change}
 use Rattle.journal_model.specs.Journal.{Script, Statement, Line, say, step, purge, checkpoint, audit, restart, call, statements}
 use Rattle.journal_model.specs.Idle.{is_by_itself}
-use Rattle.journal_model.specs.ScriptText.{Mode, Cause, utf8, many, turn, word, session, document, first_word, behind, StatementKind, insert, change, delete, get_one, size_one, of_transaction, form_of, runs_on, read_statement, document_number, tree_or_cause, read_arguments, is_marked, begins_with, most_statements, is_threads, ◌>>=◌, check, found, session_number, session_text, is_taken, is_of_transaction, session_by, said_by, dotted_by, line_by, lines_by, script_by, at_line, with_statement, is_skipped}
+use Rattle.journal_model.specs.ScriptText.{Mode, Cause, utf8, many, turn, word, session, document, first_word, behind, StatementKind, insert, change, delete, get_one, size_one, of_transaction, form_of, runs_on, read_statement, document_number, tree_or_cause, read_arguments, is_marked, begins_with, max_statements, is_threads, ◌>>=◌, check, found, session_number, session_text, is_taken, is_of_transaction, session_by, said_by, dotted_by, line_by, lines_by, script_by, at_line, with_statement, is_skipped}
 use Rattle.tree_model.specs.Text.{read_tree}
 use Rattle.journal_model.proofs.NumberLemmas.{in_range}
 
@@ -119,7 +119,7 @@ either false r q l h f g = g h
 one_line : (mode : Mode) (count : ℕ) (line : List ℕ) (l : Line) → line_by alone mode count line ≡ ok_of l → IsAlone l
 one_line mode count line l h =
     let a = (check_on (is_utf8 line) utf8 _ l h).1 in
-    let b = (check_on (nat_lt count most_statements || begins_with 46 line) many _ l a).1 in
+    let b = (check_on (nat_lt count max_statements || begins_with 46 line) many _ l a).1 in
     let c = (check_on (not (is_threads mode && begins_with 46 line)) turn _ l b).1 in
     either (begins_with 46 line) (dotted_by alone line) (said_by alone (first_word line) (behind line)) l c (λ e. absurd (no_dotted line l e)) (λ e. said (first_word line) (behind line) l e)
 
@@ -177,6 +177,7 @@ said_alone (checkpoint ∷ ls) h = absurd h.0
 said_alone (audit ∷ ls) h = absurd h.0
 said_alone (restart ∷ ls) h = absurd h.0
 
+-- a script read so is the statements of session 1, each said and driven, and each by itself
 pub read_alone : (mode : Mode) (bytes : List ℕ) (script : Script) → script_by alone mode bytes ≡ Ok script
     → (script ≡ map (λ st. say 1 true st) (statements 1 script)) × AllByRecursion (λ st. is_by_itself st ≡ true) (statements 1 script)
 read_alone mode bytes script h = said_alone script (all_lines mode (lines bytes) 1 0 script h)

@@ -4,7 +4,7 @@ use Rattle.std.specs.Str.{is_utf8}
 use Rattle.std.specs.Str.Lines.{lines}
 use Rattle.journal_model.specs.Built.{Built, everything}
 use Rattle.journal_model.specs.Journal.{Script, Line, purge, checkpoint, audit, restart}
-use Rattle.journal_model.specs.ScriptText.{Mode, Cause, utf8, many, turn, word, session, first_word, behind, form_of, runs_on, number_up_to, session_number, most_steps, begins_with, is_marked, session_text, is_of_transaction, is_taken, if_built, session_by, said_by, step_by, dotted_by, line_by, lines_by, script_by, read_script, is_skipped, with_statement, most_statements, is_threads, at_line, check, found, ◌>>=◌}
+use Rattle.journal_model.specs.ScriptText.{Mode, Cause, utf8, many, turn, word, session, first_word, behind, form_of, runs_on, number_up_to, session_number, max_steps, begins_with, is_marked, session_text, is_of_transaction, is_taken, if_built, session_by, said_by, step_by, dotted_by, line_by, lines_by, script_by, read_script, is_skipped, with_statement, max_statements, is_threads, at_line, check, found, ◌>>=◌}
 use Rattle.journal_model.proofs.NumberLemmas.{in_range}
 
 -- what the first gives, the second gives
@@ -65,7 +65,7 @@ module _ (table : Built) where
   step_within : (rest : List ℕ) → Within (step_by table rest) (step_by everything rest)
   step_within rest =
       then_within (check table.steps word) (check true word) _ _ (check_within table.steps true word refl) (λ x e.
-      on_within (found (number_up_to most_steps (behind rest)) word) _ _ (λ n e.
+      on_within (found (number_up_to max_steps (behind rest)) word) _ _ (λ n e.
       then_within (session_by table (first_word rest)) (session_by everything (first_word rest)) _ _ (session_within (first_word rest)) (λ s e y g. g)))
 
   dotted_within : (line : List ℕ) → Within (dotted_by table line) (dotted_by everything line)
@@ -79,7 +79,7 @@ module _ (table : Built) where
   line_within : (mode : Mode) (count : ℕ) (line : List ℕ) → Within (line_by table mode count line) (line_by everything mode count line)
   line_within mode count line =
       on_within (check (is_utf8 line) utf8) _ _ (λ x e.
-      on_within (check (nat_lt count most_statements || begins_with 46 line) many) _ _ (λ x e.
+      on_within (check (nat_lt count max_statements || begins_with 46 line) many) _ _ (λ x e.
       on_within (check (not (is_threads mode && begins_with 46 line)) turn) _ _ (λ x e.
       either_within (begins_with 46 line) _ _ _ _ (dotted_within line) (said_within (first_word line) (behind line)))))
 

@@ -3,7 +3,7 @@
 --     everything      the whole grammar
 --     alone      one session, each of whose statements is made by itself
 use Rattle.std.specs.Prelude.{ℕ, Bool, true, false}
-use Rattle.journal_model.specs.Journal.{greatest_session}
+use Rattle.journal_model.specs.Journal.{max_session}
 
 pub record Built : Type 0 where
   -- the greatest session
@@ -21,7 +21,7 @@ pub record Built : Type 0 where
 
 abbrev pub everything : Built
 everything = record {
-  sessions = greatest_session;
+  sessions = max_session;
   marks = true;
   transactions = true;
   steps = true;

@@ -14,7 +14,7 @@ use Rattle.path_model.specs.PathText as path_text
 use Rattle.path_model.specs.PathText.{PathFault, read_path}
 use Rattle.journal_model.specs.Causes.{Cause, document, deep, syntax, float, key, arguments, pairs, path, wildcard, range, root, ◌>>=◌, check, found}
 use Rattle.journal_model.specs.Documents.{Insert, Change, Delete}
-pub use Rattle.journal_model.specs.Journal.{greatest_session}
+pub use Rattle.journal_model.specs.Journal.{max_session}
 use Rattle.journal_model.specs.Journal.{Statement, call, get, size, begin, commit, rollback, rr, rc}
 
 -- ---- words and numbers
@@ -42,18 +42,18 @@ abbrev pub number_up_to : ℕ → List ℕ → Option ℕ
 number_up_to greatest text =
     if is_decimal text && nat_le (value_of text) greatest then Some (value_of text) else None
 
-abbrev pub greatest_document : ℕ
-greatest_document = 2 ^ 32 - 1
+abbrev pub max_document : ℕ
+max_document = 2 ^ 32 - 1
 
 abbrev pub document_number : List ℕ → Option ℕ
-document_number text = number_up_to greatest_document text
+document_number text = number_up_to max_document text
 
 -- the number behind the `s` of a line's first word
 abbrev pub session_number : List ℕ → Option ℕ
-session_number text = number_up_to greatest_session text
+session_number text = number_up_to max_session text
 
-abbrev pub most_steps : ℕ
-most_steps = 1_000_000
+abbrev pub max_steps : ℕ
+max_steps = 1_000_000
 
 -- ---- the text of a document
 
@@ -69,8 +69,8 @@ tree_or_cause (Err f) = Err (text_cause f)
 
 -- ---- the arguments of a change: a JSON array of paths and values in turn, or of paths
 
-abbrev pub most_pairs : ℕ
-most_pairs = 256
+abbrev pub max_pairs : ℕ
+max_pairs = 256
 
 abbrev pub elements : Tree → List Tree
 elements (json_tree.array ts) = tree_list ts
@@ -130,13 +130,13 @@ read_paths (text ∷ more) = do
 abbrev pub pairs_of : List Tree → Result (List (Path × Tree)) Cause
 pairs_of args = do
   ps ← found (unless_empty (texts_and_values args)) arguments
-  _ ← check (nat_le (length ps) most_pairs) pairs
+  _ ← check (nat_le (length ps) max_pairs) pairs
   read_pairs ps
 
 abbrev pub paths_of : List Tree → Result (List Path) Cause
 paths_of args = do
   ps ← found (unless_empty (texts args)) arguments
-  _ ← check (nat_le (length ps) most_pairs) pairs
+  _ ← check (nat_le (length ps) max_pairs) pairs
   read_paths ps
 
 pub data EditWord : Type 0 where

@@ -8,7 +8,7 @@ use Rattle.journal_model.specs.Part.{is_of, level_in, part, started, answered, c
 use Rattle.journal_model.specs.Locks.{sessions, asks, holds, may_hold}
 use Rattle.journal_model.specs.Legal.{has_deadlock, has_waited, commit_due, restart_due}
 use Rattle.journal_model.specs.Built.{everything}
-use Rattle.journal_model.specs.Turns.{is_a_sessions, AreOwn, AreOf, IsDone, IsStuck, begins_next, BeginsWith, ArePurged, IsPurgedOut, AreRestarted, Part, LastPart, AutoPurge, TurnsFrom, Turns, most_unpurged, unpurged}
+use Rattle.journal_model.specs.Turns.{is_a_sessions, AreOwn, AreOf, IsDone, IsStuck, begins_next, BeginsWith, ArePurged, IsPurgedOut, AreRestarted, Part, LastPart, AutoPurge, TurnsFrom, Turns, max_unpurged, unpurged}
 use Rattle.journal_rows.specs.Told.{is_empty, may_purge}
 use Rattle.journal_rows.specs.Cuts.{Cut, is_end, is_purged, is_restarted, is_restart_at, begins_with_start, is_audit, are_of, is_done, is_met, meets_one, is_stuck_on, is_purged_out, are_restarted, is_part, is_ended, is_last, is_auto, follows_from, follows}
 use Rattle.journal_rows.proofs.DecideLemmas.{both, three, four, either, is_true, is_false, at_most, other, number, none, empty, all_told}
@@ -175,9 +175,9 @@ module _ (o : Opening) (script : Script) where
       )
 
   auto_told : (past es : List Entry) → is_auto o script past es ≡ true → AutoPurge o script true past es
-  auto_told past es h = go (nat_lt most_unpurged (unpurged o past)) refl h
+  auto_told past es h = go (nat_lt max_unpurged (unpurged o past)) refl h
     where
-      go : (b : Bool) → nat_lt most_unpurged (unpurged o past) ≡ b → (if b then list_all is_purged es && is_purged_out o script (reverse es ++ past) else is_empty es) ≡ true
+      go : (b : Bool) → nat_lt max_unpurged (unpurged o past) ≡ b → (if b then list_all is_purged es && is_purged_out o script (reverse es ++ past) else is_empty es) ≡ true
           → AutoPurge o script true past es
       go true is e = let t = two (list_all is_purged es) (is_purged_out o script (reverse es ++ past)) e in ((λ f. absurd (true≢false (sym is ∙ f))), λ f. (purges_told o script es t.0, out_told (reverse es ++ past) t.1))
       go false is e = ((λ f. (empty es).0 e), λ f. absurd (true≢false (sym f ∙ is)))

@@ -30,6 +30,7 @@ module _ {P Q R S T : Type 0} where
   pub five : (a b c d e : Bool) → Decides a P → Decides b Q → Decides c R → Decides d S → Decides e T → Decides (a && (b && (c && (d && e)))) (P × Q × R × S × T)
   five a b c d e p q r s t = let u = both a (b && (c && (d && e))) p (four b c d e q r s t) in ((λ x. let h = u.0 x in (h.0, h.1.0, h.1.1, h.1.2, h.1.3)), λ h. u.1 (h.0, (h.1, h.2, h.3, h.4)))
 
+-- what always holds
 pub always : Decides true (Unit {0})
 always = ((λ e. tt), λ h. refl)
 
@@ -37,13 +38,16 @@ always = ((λ e. tt), λ h. refl)
 pub is_true : (b : Bool) → Decides b (b ≡ true)
 is_true b = ((λ e. e), λ e. e)
 
+-- a truth value is false
 pub is_false : (b : Bool) → Decides (not b) (b ≡ false)
 is_false true = ((λ e. absurd (true≢false (sym e))), λ e. absurd (true≢false e))
 is_false false = ((λ e. refl), λ e. refl)
 
+-- a number is at most another
 pub at_most : (m n : ℕ) → Decides (nat_le m n) (m ≤ n)
 at_most m n = ((λ e. grind (arith, e)), λ e. grind (arith, e))
 
+-- a number isn't another
 pub other : (m n : ℕ) → Decides (not (m == n)) (m ≢ n)
 other m n = by_test (m == n) (Decides-eqb m n)
   where
@@ -51,18 +55,22 @@ other m n = by_test (m == n) (Decides-eqb m n)
     by_test true d = ((λ e. absurd (true≢false (sym e))), λ h. absurd (h (d.0 refl)))
     by_test false d = ((λ e f. true≢false (sym (d.1 f))), λ h. refl)
 
+-- an option has this number
 pub number : (n : ℕ) (x : Option ℕ) → Decides (is_number n x) (x ≡ Some n)
 number n None = ((λ e. absurd (true≢false (sym e))), λ e. let no : ⊥ = cc in absurd no)
 number n (Some m) = ((λ e. ap Some ((Decides-eqb m n).0 e)), λ e. (Decides-eqb m n).1 (cc))
 
+-- an option has nothing
 pub none : {A : Type 0} (x : Option A) → Decides (not (is_some x)) (x ≡ None)
 none None = ((λ e. refl), λ e. refl)
 none (Some a) = ((λ e. absurd (true≢false (sym e))), λ e. let no : ⊥ = cc in absurd no)
 
+-- a list is empty
 pub empty : {A : Type 0} (xs : List A) → Decides (is_empty xs) (xs ≡ [])
 empty [] = ((λ e. refl), λ e. refl)
 empty (x ∷ xs) = ((λ e. absurd (true≢false (sym e))), λ e. let no : ⊥ = cc in absurd no)
 
+-- a list isn't empty
 pub filled : {A : Type 0} (xs : List A) → Decides (not (is_empty xs)) (xs ≢ [])
 filled [] = ((λ e. absurd (true≢false (sym e))), λ h. absurd (h refl))
 filled (x ∷ xs) = ((λ e f. let no : ⊥ = cc in no), λ h. refl)

@@ -8,7 +8,7 @@ use Rattle.journal_model.specs.Journal.{Script, Line, say, step, purge, checkpoi
 use Rattle.journal_model.specs.Part.{is_of, level_in, part, started, answered, commits_of, purged_of}
 use Rattle.journal_model.specs.Locks.{sessions, asks, holds, may_hold}
 use Rattle.journal_model.specs.Legal.{has_deadlock, has_waited, commit_due, restart_due}
-use Rattle.journal_model.specs.Turns.{is_a_sessions, most_unpurged, unpurged, begins_next}
+use Rattle.journal_model.specs.Turns.{is_a_sessions, max_unpurged, unpurged, begins_next}
 use Rattle.journal_rows.specs.Told.{is_number, is_empty, same_reply, may_purge}
 
 pub record Cut : Type 0 where
@@ -98,7 +98,7 @@ module _ (o : Opening) (script : Script) where
 
   abbrev pub is_auto : List Entry → List Entry → Bool
   is_auto past es =
-      if nat_lt most_unpurged (unpurged o past) then list_all is_purged es
+      if nat_lt max_unpurged (unpurged o past) then list_all is_purged es
       && is_purged_out (reverse es ++ past) else is_empty es
 
   abbrev pub follows_from : List Cut → List Line → List Line → List Entry → List Entry → Bool

@@ -1,4 +1,5 @@
-//! JSON trees as MySQL's binary JSON: one canonical encoding, and a decoder that names the first fault.
+//! JSON trees as MySQL's binary JSON: one canonical encoding, and a decoder that names the first
+//! fault.
 #![tactic(auto)]
 
 mod codec;

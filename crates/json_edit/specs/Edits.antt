@@ -8,12 +8,12 @@ use Rattle.json_edit.specs.declared.pairs.Pair.{Pair}
 use Rattle.json_edit.specs.declared.pairs.Edit.{Edit}
 use Rattle.json_edit.specs.declared.pairs.Edit.TheVariants.{Set, Replace, Remove}
 
-abbrev pub most_pairs : ℕ
-most_pairs = 256
+abbrev pub max_pairs : ℕ
+max_pairs = 256
 
 -- so many pairs or paths may a statement have
 abbrev pub IsCount : ℕ → Type 0
-IsCount n = (1 ≤ n) × (n ≤ most_pairs)
+IsCount n = (1 ≤ n) × (n ≤ max_pairs)
 
 abbrev pub HasLeg : Path → Type 0
 HasLeg p = 0 < length p

@@ -60,7 +60,8 @@ pub fn remove(tree: &mut Json, path: &Path) -> bool
 fn edit_below(tree: &mut Json, leg: &Leg, rest: &[Leg], action: Action) -> Result<bool, AllocError>
     requires { AllByRecursion IsLeg (leg_of leg.now ∷ map leg_of rest.now) }
     ensures ok { IfOk result
-        (λ acted. Acts (at_parent (act_of action) (leg_of leg.now) (map leg_of rest.now) (tree_of tree.old))
+        (λ acted. Acts (at_parent (act_of action) (leg_of leg.now) (map leg_of rest.now)
+        (tree_of tree.old))
         (tree_of tree.old) (tree_of tree.new) acted) }
     ensures err { OnErr result (tree_of tree.new ≡ tree_of tree.old) }
     ensures only_set { OnErr result (IsSet action) }

@@ -34,7 +34,8 @@ fn set_all(alloc: Global, tree: &mut Json, pairs: &[Pair]) -> Result<(), AllocEr
 }
 
 fn replace_all(alloc: Global, tree: &mut Json, pairs: &[Pair]) -> Result<(), AllocError>
-    ensures { OnOk result (tree_of tree.new ≡ replace_all (map assigned pairs.now) (tree_of tree.old)) }
+    ensures { OnOk result (tree_of tree.new
+        ≡ replace_all (map assigned pairs.now) (tree_of tree.old)) }
 {
     for pair in pairs {
         let value = pair.value.copy(alloc)?;

@@ -132,6 +132,7 @@ module _ (bytes : List ℕ) (path : Path) (v u : Tree) (adds : Bool) (h : StandF
   pub nothing_added : adds ≡ false → Makes bytes u true path v Kept
   nothing_added so = ap (λ o. same_tree u (unwrap_or o u)) (none_is (try_set path v u) (at v ∙ so)) ∙ tree_itself u
 
+-- a replacement at a path that leads to no value keeps the tree
 pub nothing_replaced : (bytes : List ℕ) (path : Path) (v u : Tree) → positions path u ≡ None → Makes bytes u false path v Kept
 nothing_replaced bytes path v u nowhere = ap (same_tree u) (replace_nowhere path v u nowhere) ∙ tree_itself u
 
@@ -231,12 +232,14 @@ marked_stays false (a ∷ rest) p e = marked_stays false rest (replaced_by repla
 
 -- ---- from pair to pair
 
+-- where the first pair is made in place, the pairs left lead on to what all of them lead to
 pub put_on : (adding : Bool) (path : Path) (v : Tree) (rest whole : List (Path × Tree)) (bytes b : List ℕ) (u : Tree) (last : Progress) → whole ≡ (path, v) ∷ rest → progress (edit_by adding whole) (in_place bytes u) ≡ last
     → (replaced_by (act_by adding) path v (in_place bytes u)).edited ≡ Some b → progress (edit_by adding rest) (in_place b (replaced_by (act_by adding) path v (in_place bytes u)).«tree») ≡ last
 put_on adding path v rest whole bytes b u last w h e =
     let q = replaced_by (act_by adding) path v (in_place bytes u) in
     ap (λ o. progress (edit_by adding rest) (record { «tree» = q.«tree»; edited = o })) (sym e) ∙ sym (one_more adding path v rest (in_place bytes u)) ∙ ap (λ ps. progress (edit_by adding ps) (in_place bytes u)) (sym w) ∙ h
 
+-- where the first pair can't be made in place, the edit by all of them can't
 pub put_off : (adding : Bool) (path : Path) (v : Tree) (rest whole : List (Path × Tree)) (bytes : List ℕ) (u : Tree) (last : Progress) → whole ≡ (path, v) ∷ rest → progress (edit_by adding whole) (in_place bytes u) ≡ last
     → (replaced_by (act_by adding) path v (in_place bytes u)).edited ≡ None → last.edited ≡ None
 put_off adding path v rest whole bytes u last w h e =

@@ -92,6 +92,7 @@ itself_entered here l ls at none =
     ap (option_and_then (λ v. option_map (λ ks. position_of here l ++ ks) (positions ls v))) at
     ∙ ap (λ js. option_map (λ ks. js ++ ks) (positions ls here)) none ∙ mapped_itself (positions ls here)
 
+-- past a leg that stays, the walk is at the same spot, and a removal takes nothing out there
 pub walk_itself : (bytes : List ℕ) (t : Tree) (path : Path) (l : Leg) (ls : Path) (ks : List ℕ) (s : layout.Spot) (e : End) → Walk bytes t path (l ∷ ls) ks s e
     → ((v : Tree) → IsTree v → IsValue bytes v s → IsEntered bytes s v l Itself) → Walk bytes t path ls ks s (staying e)
 walk_itself bytes t path l ls ks s e w h =
@@ -106,6 +107,7 @@ walk_itself bytes t path l ls ks s e w h =
       ends = ends_itself bytes ks e w.ends;
     }
 
+-- behind a leg that stays, the value at the end still lies within the bytes
 pub inside_itself : (bytes : List ℕ) (e : End) → EndsInside bytes e → EndsInside bytes (staying e)
 inside_itself bytes end.Root h = h
 inside_itself bytes (end.Value p) h = h
@@ -122,6 +124,8 @@ edits_value : (path : Path) (t here v : Tree) (l : Leg) (ls : Path) (k : ℕ) (e
 edits_value path t here v l [] k e p is at position taken h = h None taken_out ∙ ap is_some (enters_at here l v k (leg_step here l v is at) position).out ∙ sym taken
 edits_value path t here v l (m ∷ ls) k e p is at position taken h = λ root act. h root act ∙ below here v l m ls act at
 
+-- past a leg that enters a value, the walk is at that value's spot, with its position behind the
+-- others
 pub walk_value : (bytes : List ℕ) (t : Tree) (path : Path) (l : Leg) (ls : Path) (ks : List ℕ) (s : layout.Spot) (e : End) (c : Container) (k : ℕ) (u : Spot) → Walk bytes t path (l ∷ ls) ks s e
     → ((v : Tree) → IsTree v → IsValue bytes v s → EntersValue bytes s v l c k u) → Walk bytes t path ls (ks ++ k ∷ []) (spot_of u) (end.Value (record { container = c; number = k; spot = u; taken = true }))
 walk_value bytes t path l ls ks s e c k u w h =
@@ -146,6 +150,8 @@ nothing_removed : (here : Tree) (l : Leg) (ls : Path) → tree_child here l ≡ 
 nothing_removed here l [] e = ap is_some (nothing_out here l e)
 nothing_removed here l (m ∷ ls) e = ap (λ o. is_some (option_map (with_child here l) (option_and_then (at_parent taken_out m ls) o))) e
 
+-- where the next leg finds nothing, so does the path, and a set by it adds a value if one by the
+-- legs left does
 pub walk_nothing : (bytes : List ℕ) (t : Tree) (path : Path) (l : Leg) (ls : Path) (ks : List ℕ) (s : layout.Spot) (e : End) (adds : Bool) (led : Led) → Walk bytes t path (l ∷ ls) ks s e
     → ((v : Tree) → IsTree v → IsValue bytes v s → tree_child v l ≡ None) → ((v u : Tree) → IsValue bytes v s → tree_child v l ≡ None → is_some (at_parent (set_at u) l ls v) ≡ adds)
     → led.end ≡ end.Nothing adds → IsLed bytes t path led
@@ -176,6 +182,7 @@ led_to bytes t ls path led e h same at = (
 
 -- ---- what a set adds where a leg finds nothing
 
+-- a set adds nothing where a leg that isn't the path's last one finds nothing
 pub more_behind : (t u : Tree) (l m : Leg) (ls : Path) → tree_child t l ≡ None → is_some (at_parent (set_at u) l (m ∷ ls) t) ≡ false
 more_behind t u l m ls e = ap (λ o. is_some (option_map (with_child t l) (option_and_then (at_parent (set_at u) m ls) o))) e
 

@@ -50,6 +50,7 @@ last_out : (ts : Trees) (n : ℕ) (o : Option ℕ) → from_end (length (tree_li
 last_out ts n None at e = refl
 last_out ts n (Some k) at e = absurd (some_none (nth ts k) (sym (found_at ts k (below_count (length (tree_list ts)) n k _ refl at)) ∙ e))
 
+-- a leg that finds no value takes none out
 pub nothing_out : (t : Tree) (l : Leg) → tree_child t l ≡ None → taken_out t l ≡ None
 nothing_out null l e = refl
 nothing_out (boolean b) l e = refl
@@ -96,12 +97,14 @@ path_out (m ∷ ls) l t u is e = by_child (tree_child t l) refl e (λ v w. path_
         let step = leg_step t l v is at in
         below_is t u v l (λ x. IsLess x t) (at_parent taken_out m ls v) h (λ w below. put_less t v w l step (again v w (step_is t l v is step) below))
 
+-- what a removal by a path leaves is lighter than the tree, and no deeper
 pub out_less : (path : Path) (t u : Tree) → IsTree t → try_remove path t ≡ Some u → IsLess u t
 out_less [] t u is e = absurd (some_none u (sym e))
 out_less (l ∷ ls) t u is e = path_out ls l t u is e
 
 -- ---- what a set adds where a path finds nothing
 
+-- where a leg finds no value, a set there does what the adding of one does
 pub set_added : (u t : Tree) (l : Leg) → tree_child t l ≡ None → set_at u t l ≡ added u t l
 set_added u t l e = ap (λ o. cond (is_some o) (Some (with_child t l u)) (added u t l)) e
 
@@ -153,6 +156,7 @@ path_added (m ∷ ls) l u t w is nowhere e = by_child (tree_child t l) refl nowh
         below_is t w v l (λ x. weight t < weight x) (at_parent (set_at u) m ls v) h
         (λ x below. put_heavy t v x l step (again v x (step_is t l v is step) (mapped_none (λ js. position_of t l ++ js) (positions (m ∷ ls) v) gone) below))
 
+-- where a path leads to no value and a set adds one, the tree becomes heavier
 pub set_heavier : (path : Path) (u t w : Tree) → IsTree t → positions path t ≡ None → try_set path u t ≡ Some w → weight t < weight w
 set_heavier [] u t w is nowhere e = absurd (some_none [] nowhere)
 set_heavier (l ∷ ls) u t w is nowhere e = path_added ls l u t w is nowhere e

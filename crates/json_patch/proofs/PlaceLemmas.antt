@@ -32,6 +32,7 @@ some_at : (P : layout.Container → Type 0) (o : Option layout.Container) (d : l
 some_at P None d e p = absurd p
 some_at P (Some x) d e p = subst P (some_is e) p
 
+-- where there is no container, there is none with a property
 pub none_at : (P : layout.Container → Type 0) (o : Option layout.Container) → o ≡ None → IsSomeAnd o P → ⊥
 none_at P None e p = absurd p
 none_at P (Some x) e p = let no : ⊥ = cc in no
@@ -48,6 +49,7 @@ Holder bytes s d t = ((ts : Trees) × (t ≡ array ts) × HasElements bytes s.li
 no_container : {X : Type 0} (o : Option layout.Container) (d : layout.Container) → o ≡ None → o ≡ Some d → X
 no_container o d n e = let no : ⊥ = cc in absurd no
 
+-- a tree at whose spot a container begins is a list or an object that stands in it
 pub holder : (bytes : List ℕ) (t : Tree) (s : layout.Spot) (d : layout.Container) → IsValue bytes t s → container_at bytes s ≡ Some d → Holder bytes s d t
 holder bytes null s d v e = no_container (container_at bytes s) d (ap (λ k. container_as k s.at) v.0) e
 holder bytes (boolean b) s d v e = no_container (container_at bytes s) d (ap (λ k. container_as k s.at) v.0) e
@@ -56,12 +58,14 @@ holder bytes (text x) s d v e = no_container (container_at bytes s) d (ap (λ k.
 holder bytes (array ts) s d v e = inl (ts, refl, some_at (HasElements bytes s.limit ts) (container_at bytes s) d e v)
 holder bytes (object ms) s d v e = inr (ms, refl, some_at (HasMembers bytes s.limit ms) (container_at bytes s) d e v)
 
+-- the elements of a list are the values of its container
 pub elements_values : (bytes : List ℕ) (limit : ℕ) (ts : Trees) (d : layout.Container) → HasElements bytes limit ts d → Values bytes d ts
 elements_values bytes limit ts d h =
     let floor : values_floor bytes d ≡ entries_end bytes d = ap (λ b. cond b (keys_end bytes d (count bytes d)) (entries_end bytes d)) h.0 in
     let whole = h.1.2 in
     record { number = h.2; elements = subst (λ n. AreElements bytes d 0 n ts) (sym floor) h.3; floor = (omega (arith, floor), omega (arith, floor, whole)) }
 
+-- the values of an object's members are those of its container
 pub members_values : (bytes : List ℕ) (limit : ℕ) (ms : Members) (d : layout.Container) → HasMembers bytes limit ms d → Values bytes d (values ms)
 members_values bytes limit ms d h =
     let ks = map (λ m. m.0) (member_list ms) in
@@ -125,6 +129,7 @@ nth_or no_trees n = refl
 nth_or (tree t ts) zero = refl
 nth_or (tree t ts) (suc n) = nth_or ts n
 
+-- a number below the count of a list's elements finds the element of that number
 pub found_at : (ts : Trees) (n : ℕ) → n < length (tree_list ts) → slice_get (tree_list ts) n ≡ Some (nth ts n)
 found_at ts n low = slice_get-get_or (tree_list ts) n null low ∙ ap Some (nth_or ts n)
 
@@ -135,6 +140,7 @@ Numbered ts l k = (k < length (tree_list ts)) × (position_of (array ts) l ≡ k
 last_numbered : (ts : Trees) (n k : ℕ) → from_end (length (tree_list ts)) n ≡ Some k → k < length (tree_list ts) → Numbered ts (last n) k
 last_numbered ts n k e low = (low, ap (λ o. unwrap_or o 0 ∷ []) e, ap (option_and_then (slice_get (tree_list ts))) e ∙ found_at ts k low)
 
+-- a number counted from the end, where there is one, is below the count
 pub below_count : (m n k : ℕ) (b : Bool) → nat_lt n m ≡ b → cond b (Some (m - suc n)) None ≡ Some k → k < m
 below_count m n k true e h = let low = ltb-true n m e in let same : m - suc n ≡ k = some_is h in omega (arith, low, same)
 below_count m n k false e h = let no : ⊥ = cc in absurd no
@@ -229,6 +235,7 @@ in_object bytes s c ms (last n) k u is framed h are m place = let no : ⊥ = cc 
 keyed_clash : {X : Type 0} (b : Bool) → b ≡ true → b ≡ false → X
 keyed_clash b e f = let no : ⊥ = cc in absurd no
 
+-- a leg that finds a number in a container enters the value of that number, at its spot
 pub entered_value : (bytes : List ℕ) (t : Tree) (s : layout.Spot) (c : Container) (l : Leg) (k : ℕ) (u : Spot) → IsTree t → IsValue bytes t s → container_at bytes s ≡ Some (container_of c) → IsFramed bytes c
     → IsNumber bytes (container_of c) l (Some k) → spot_of u ≡ child bytes (container_of c) k → EntersValue bytes s t l c k u
 entered_value bytes t s c l k u tree_is v is framed n place = go t (holder bytes t s (container_of c) v is) tree_is
@@ -268,6 +275,7 @@ entered_itself bytes t s c l v is at = go t (holder bytes t s (container_of c) v
 none_first : {X : Type 0} (k : ℕ) (ks : List ℕ) → [] ≡ k ∷ ks → X
 none_first k ks e = let no : ⊥ = cc in absurd no
 
+-- a leg that leads from a tree to itself, with no position entered, stays there
 pub stays_at : (t : Tree) (l : Leg) → Step t l t → position_of t l ≡ [] → ItselfAt t l t
 stays_at t l (inl s) e = s
 stays_at t l (inr (k, s)) e = none_first k [] (sym e ∙ s.position)
@@ -276,6 +284,7 @@ first_of : List ℕ → ℕ
 first_of [] = 0
 first_of (k ∷ ks) = k
 
+-- a leg that leads to a value, with a position entered, enters the value of that number
 pub enters_at : (t : Tree) (l : Leg) (v : Tree) (k : ℕ) → Step t l v → position_of t l ≡ k ∷ [] → Enters t l v k
 unfolding first_of
 enters_at t l v k (inl s) e = none_first k [] (sym s.0 ∙ e)

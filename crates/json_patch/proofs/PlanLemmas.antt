@@ -35,12 +35,14 @@ stands_on edit bytes new t other sets h e =
 
 -- ---- bytes that are written
 
+-- writes within the bytes leave their length
 pub writes_length : (ws : List Write) (bytes : List ℕ) → AreInside (length bytes) ws → length (put_writes ws bytes) ≡ length bytes
 writes_length [] bytes h = refl
 writes_length (w ∷ ws) bytes h =
     let one = written_length bytes w.at w.bytes.items h.0 in
     writes_length ws (written bytes w.at w.bytes.items) (subst (λ n. AreInside n ws) (sym one) h.1) ∙ one
 
+-- as many new bytes put over all old ones, and cut to that length, are the new ones
 pub whole_again : (items new : List ℕ) (len : ℕ) → len ≡ length items → length new ≡ length items → take len (new ++ drop (length new) items) ≡ new
 whole_again items new len e f =
     ap (λ r. take len (new ++ r)) (drop_all (length new) items (omega (arith, f))) ∙ ap (take len) (append-nil new) ∙ take_all len new (omega (arith, e, f))
@@ -67,6 +69,7 @@ runs_within old new e = let m = runs_maximal old new e in within_from (runs old 
 
 -- ---- the whole plan
 
+-- bytes that stand for a tree, no more than a document may have, stand for it however deep it is
 pub stands_for : (bytes : List ℕ) (t : Tree) → IsBytes bytes → length bytes ≤ 16777216 → Stands bytes t → StandFor bytes t
 stands_for bytes t octets small s = record { octets = octets; is = s.«tree»; some = s.some; value = s.value; whole = s.whole; small = small }
 
@@ -94,6 +97,7 @@ memory_plan bytes edit = record { answer = λ t s. tt; stands = λ t s. tt; enco
 abbrev pub LeadsBack : List ℕ → Edit → Tree → Type 0
 LeadsBack bytes edit t = (new : List ℕ) × (u : Tree) × (progress edit (in_place bytes t) ≡ in_place new u) × (same_tree t u ≡ true)
 
+-- for an edit that leads back to an equal tree the plan is to change nothing
 pub same_plan : (bytes : List ℕ) (edit : Edit) → ((t : Tree) → Stands bytes t → LeadsBack bytes edit t) → Plans bytes edit (Ok planned.Same)
 same_plan bytes edit h = record {
   answer = λ t s.
@@ -107,6 +111,7 @@ same_plan bytes edit h = record {
 abbrev pub LeadsDeep : List ℕ → Edit → Tree → Type 0
 LeadsDeep bytes edit t = (new : List ℕ) × (u : Tree) × (progress edit (in_place bytes t) ≡ in_place new u) × (100 < depth u)
 
+-- for an edit that leads to a tree that is too deep the plan is refused as too deep
 pub deep_plan : (bytes : List ℕ) (edit : Edit) → ((t : Tree) → Stands bytes t → LeadsDeep bytes edit t) → Plans bytes edit (Err Deep)
 deep_plan bytes edit h = record {
   answer = λ t s.
@@ -138,6 +143,7 @@ made_standing bytes edit t parts h =
       ap length made ∙ h.long,
     )
 
+-- for an edit that leads on to another tree in place the plan is the patches of its runs
 pub parts_plan : (bytes : List ℕ) (edit : Edit) (parts : Changed) → ((t : Tree) → Stands bytes t → LeadsOn bytes edit t parts) → Plans bytes edit (Ok (planned.Parts parts))
 parts_plan bytes edit parts h = record {
   answer = λ t s.

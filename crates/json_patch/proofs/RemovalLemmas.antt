@@ -29,6 +29,7 @@ some_of : {X : Type 0} (o : Option X) → is_some o ≡ true → (x : X) × (o �
 some_of None e = absurd (true≢false (sym e))
 some_of (Some x) e = (x, refl)
 
+-- where a path takes a value out, the writes that take it out of its container make the removal
 pub value_taken : (bytes : List ℕ) (t : Tree) (path : Path) (ks : List ℕ) (p : Place) (ws : List Write) → positions path t ≡ Some ks → ActsThere bytes ks p → is_some (try_remove path t) ≡ true
     → AreWrites bytes (without_value bytes (container_of p.container) p.number) ws → TakesOut bytes t path ws
 value_taken bytes t path ks p ws at a some w =
@@ -44,10 +45,12 @@ lighter_apart t u less = by_same (same_tree t u) refl
     by_same true e = let same : weight t ≡ weight u = ap weight (tree_equal t u e) in absurd (omega (arith, less, same))
     by_same false e = e
 
+-- where no writes are found for the removal by a path, the path takes nothing out
 pub none_taken : {V : Type 0} (bytes : List ℕ) (t : Tree) (path : Path) (items : V → List Write) (found : Option V) → ((v : V) → found ≡ Some v → ⊥) → Takes bytes t path (option_map items found) → try_remove path t ≡ None
 none_taken bytes t path items None never h = h
 none_taken bytes t path items (Some v) never h = absurd (never v refl)
 
+-- a removal by a path that takes nothing out reaches the same bytes and tree
 pub kept_step : (bytes : List ℕ) (t : Tree) (path : Path) → StandFor bytes t → try_remove path t ≡ None → Reached bytes t (path ∷ []) [] bytes false
 kept_step bytes t path stands none =
     let kept : remove path t ≡ t = ap (λ o. unwrap_or o t) none in
@@ -61,6 +64,7 @@ kept_step bytes t path stands none =
       lighter = refl;
     }
 
+-- a removal by a path that takes a value out reaches the written bytes, and a lighter tree
 pub taken_step : (bytes new : List ℕ) (t : Tree) (path : Path) (ws : List Write) → StandFor bytes t → TakesOut bytes t path ws → new ≡ put_writes ws bytes → Reached bytes t (path ∷ []) [] new true
 taken_step bytes new t path ws stands h made =
     let less = out_less path t h.other stands.is h.out in
@@ -83,6 +87,7 @@ no_heavier : (took : Bool) (other t : Tree) → Lighter took other t → weight 
 no_heavier true other t h = omega (arith, h)
 no_heavier false other t h = let same : weight other ≡ weight t = ap weight h in omega (arith, same)
 
+-- where the next path takes a value out, the paths behind it lead on, and something was taken
 pub took_more : (bytes mid new : List ℕ) (t : Tree) (paths left : List Path) (path : Path) (took : Bool) → Reached bytes t paths (path ∷ left) mid took → ((u : Tree) → StandFor mid u → Reached mid u (path ∷ []) [] new true)
     → Reached bytes t paths left new true
 took_more bytes mid new t paths left path took h step =
@@ -100,6 +105,7 @@ took_more bytes mid new t paths left path took h step =
       lighter = omega (arith, less, before);
     }
 
+-- where the next path takes nothing out, those behind it lead on, and what was taken is as before
 pub kept_more : (bytes mid new : List ℕ) (t : Tree) (paths left : List Path) (path : Path) (took : Bool) → Reached bytes t paths (path ∷ left) mid took → ((u : Tree) → StandFor mid u → Reached mid u (path ∷ []) [] new false)
     → Reached bytes t paths left new took
 kept_more bytes mid new t paths left path took h step =
@@ -117,9 +123,11 @@ kept_more bytes mid new t paths left path took h step =
 
 -- ---- the plan
 
+-- removals that took nothing out lead back to an equal tree
 pub leads_back : (bytes new : List ℕ) (t : Tree) (paths : List Path) → Reached bytes t paths [] new false → LeadsBack bytes (model.Remove paths) t
 leads_back bytes new t paths h = (new, h.other, sym h.leads_on, ap (same_tree t) h.lighter ∙ tree_itself t)
 
+-- removals that took values out lead on to another tree, whose patches are the runs to its bytes
 pub leads_on : (bytes new : List ℕ) (t : Tree) (paths : List Path) (parts : Changed) → Stands bytes t → Reached bytes t paths [] new true → runs_of parts ≡ runs bytes new → LeadsOn bytes (model.Remove paths) t parts
 leads_on bytes new t paths parts s h runs_are =
     let low = h.shallow in

@@ -37,6 +37,7 @@ value_there ks t v is low e =
     let same = some_is (sym (value_reached ks t r) ∙ e) in
     (subst IsTree same (at_tree ks t is), subst (λ w. depth w ≤ 100) same (at_shallow ks t 100 r low))
 
+-- the new value at a place, compared with the old one, tells whether the trees are the same there
 pub both_there : (old new : List ℕ) (ks : List ℕ) (t u value : Tree) (before after : Spot) (r : Bool) → Stands old t → StandsFor old (value_at ks t) (Some before) → StandsFor new (value_at ks u) (Some after)
     → ((v : Tree) → IsTree v → IsValue old v (spot_of before) → depth v ≤ 100 → value ≡ v) → ((w : Tree) → IsValue new w (spot_of after) → r ≡ same_tree w value) → r ≡ same_where (value_at ks t) (value_at ks u)
 both_there old new ks t u value before after r s a b read compared = go (value_at ks t) (value_at ks u) refl a b
@@ -50,6 +51,7 @@ both_there old new ks t u value before after r s a b read compared = go (value_a
 
 -- ---- a draft at its end
 
+-- progress with edited bytes is that of an edit that was made in place so far
 pub ended_at : (items : List ℕ) (p : Progress) → p.edited ≡ Some items → p ≡ in_place items p.«tree»
 ended_at items p e = ap (λ o. record { «tree» = p.«tree»; edited = o }) e
 

@@ -14,6 +14,7 @@ use Rattle.json_binary.specs.Place.{container_of, spot_of, IsInside}
 use Rattle.json_binary.specs.View.{form_of}
 use Rattle.json_patch.specs.Stand.{HasValue, Values, HasValues}
 
+-- the k-th of a container's values stands at the k-th spot that the container has
 pub kid_stands : (bytes : List ℕ) (c : layout.Container) (ts : Trees) (k : ℕ) → Values bytes c ts → k < count bytes c → IsValue bytes (nth ts k) (child bytes c k)
 kid_stands bytes c ts k h low =
     let z : 0 + k ≡ k = omega arith in
@@ -48,18 +49,21 @@ found_before bytes c k j e h = sym (ap (λ b. cond b (end_before bytes c j) (val
 inlined_here : (bytes : List ℕ) (c : Container) (j : ℕ) (s : Spot) (b : Bool) → spot_of s ≡ child bytes (container_of c) j → layout.is_inlined (form_of c.form) (kind_at bytes s.type_at) ≡ b → inlined bytes (container_of c) j ≡ b
 inlined_here bytes c j s b e h = ap (λ u. layout.is_inlined (form_of c.form) (kind_at bytes u.type_at)) (sym e) ∙ h
 
+-- looking back from a value, an inlined one doesn't change where those before the value end
 pub back_over : (bytes : List ℕ) (c : Container) (k n : ℕ) (s : Spot) → 0 < n → spot_of s ≡ child bytes (container_of c) (n - 1) → layout.is_inlined (form_of c.form) (kind_at bytes s.type_at) ≡ true
     → end_before bytes (container_of c) n ≡ end_before bytes (container_of c) k → end_before bytes (container_of c) (n - 1) ≡ end_before bytes (container_of c) k
 back_over bytes c k n s low e h same =
     let back : suc (n - 1) ≡ n = omega (arith, low) in
     skip_before bytes (container_of c) k (n - 1) (inlined_here bytes c (n - 1) s true e h) (ap (end_before bytes (container_of c)) back ∙ same)
 
+-- looking back from a value, the first one that isn't inlined ends where those before the value do
 pub back_to : (bytes : List ℕ) (c : Container) (k n : ℕ) (s : Spot) → 0 < n → spot_of s ≡ child bytes (container_of c) (n - 1) → layout.is_inlined (form_of c.form) (kind_at bytes s.type_at) ≡ false
     → end_before bytes (container_of c) n ≡ end_before bytes (container_of c) k → value_end bytes (spot_of s) ≡ end_before bytes (container_of c) k
 back_to bytes c k n s low e h same =
     let back : suc (n - 1) ≡ n = omega (arith, low) in
     ap (value_end bytes) e ∙ found_before bytes (container_of c) k (n - 1) (inlined_here bytes c (n - 1) s false e h) (ap (end_before bytes (container_of c)) back ∙ same)
 
+-- looking on from a value, an inlined one doesn't change where the value's room ends
 pub on_over : (bytes : List ℕ) (c : Container) (k n : ℕ) (s : Spot) → n < count bytes (container_of c) → spot_of s ≡ child bytes (container_of c) n → layout.is_inlined (form_of c.form) (kind_at bytes s.type_at) ≡ true
     → start_from bytes (container_of c) (count bytes (container_of c) - n) n ≡ room_end bytes (container_of c) k
     → start_from bytes (container_of c) (count bytes (container_of c) - (n + 1)) (n + 1) ≡ room_end bytes (container_of c) k

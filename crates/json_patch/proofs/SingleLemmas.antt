@@ -27,6 +27,7 @@ abbrev pub value_at : List ℕ → Tree → Tree
 value_at [] t = t
 value_at (k ∷ ks) t = value_at ks (nth (kids t) k)
 
+-- no value isn't some value
 pub none_some : {X : Type 0} (x : X) → None ≡ Some x → ⊥
 none_some x e = true≢false (sym (ap is_some e))
 
@@ -76,12 +77,14 @@ put_itself : (ks : List ℕ) (t : Tree) → Reaches ks t → put_at ks (value_at
 put_itself [] t r = refl
 put_itself (k ∷ ks) t r = ap (with_kid t k) (put_itself ks (nth (kids t) k) r.1) ∙ with_itself t k r.0
 
+-- two answers are equal where each is yes if the other is
 pub by_equal : (a b : Bool) → (a ≡ true → b ≡ true) → (b ≡ true → a ≡ true) → a ≡ b
 by_equal true true f g = refl
 by_equal true false f g = sym (f refl)
 by_equal false true f g = g refl
 by_equal false false f g = refl
 
+-- a value put where positions lead leaves its tree equal exactly where the value there is equal
 pub same_put : (ks : List ℕ) (u t : Tree) → Reaches ks t → same_tree t (put_at ks u t) ≡ same_tree (value_at ks t) u
 same_put ks u t r = by_equal (same_tree t (put_at ks u t)) (same_tree (value_at ks t) u)
     (λ h. let e : value_at ks t ≡ u = ap (value_at ks) (tree_equal t (put_at ks u t) h) ∙ put_found ks u t r in subst (λ v. same_tree (value_at ks t) v ≡ true) e (tree_itself (value_at ks t)))
@@ -99,6 +102,7 @@ members_deep no_members n u = omega arith
 members_deep (member k t ms) zero u = omega arith
 members_deep (member k t ms) (suc n) u = let rest : members_depth (with_nth_member ms n u) ≤ max (members_depth ms) (depth u) = members_deep ms n u in omega (arith, rest)
 
+-- a tree with one of its values replaced is no deeper than it was, or than one above the new value
 pub kid_deep : (t : Tree) (n : ℕ) (u : Tree) → depth (with_kid t n u) ≤ max (depth t) (suc (depth u))
 kid_deep null n u = omega arith
 kid_deep (boolean b) n u = omega arith
@@ -116,6 +120,7 @@ values_deep : (ms : Members) → trees_depth (values ms) ≡ members_depth ms
 values_deep no_members = refl
 values_deep (member k t ms) = ap (max (depth t)) (values_deep ms)
 
+-- a value of a container is less deep than the container
 pub below_deep : (t : Tree) (n : ℕ) → n < length (tree_list (kids t)) → suc (depth (nth (kids t) n)) ≤ depth t
 below_deep null n low = absurd (omega (arith, low))
 below_deep (boolean b) n low = absurd (omega (arith, low))
@@ -124,6 +129,8 @@ below_deep (text s) n low = absurd (omega (arith, low))
 below_deep (array ts) n low = let e : depth (nth ts n) ≤ trees_depth ts = nth_deep ts n in omega (arith, e)
 below_deep (object ms) n low = let e : depth (nth (values ms) n) ≤ members_depth ms = subst (λ d. depth (nth (values ms) n) ≤ d) (values_deep ms) (nth_deep (values ms) n) in omega (arith, e)
 
+-- with a value put in, a tree keeps within a depth that it had, and that the value has below its
+-- positions
 pub put_deep : (ks : List ℕ) (u t : Tree) (most : ℕ) → Reaches ks t → depth t ≤ most → length ks + depth u ≤ most → depth (put_at ks u t) ≤ most
 put_deep [] u t most r h g = omega (arith, g)
 put_deep (k ∷ ks) u t zero r h g = absurd (omega (arith, g))
@@ -150,6 +157,7 @@ few_positions (object ms) (last n) = omega arith
 joined : (xs ys : List ℕ) → length (xs ++ ys) ≡ length xs + length ys
 joined xs ys = grind (arith, common_steps)
 
+-- a path enters at most as many values as it has legs
 pub few_entered : (ls : Path) (t : Tree) (ks : List ℕ) → positions ls t ≡ Some ks → length ks ≤ length ls
 few_entered [] t ks e = subst (λ js. length js ≤ 0) (some_is e) (omega arith)
 few_entered (l ∷ ls) t ks e = by_child (λ u js f. few_entered ls u js f) (child t l) e
@@ -185,6 +193,7 @@ few_from at (x ∷ xs) (y ∷ ys) = by_same (x == y) (few_from (suc at) xs ys)
     by_same true few = omega (arith, few)
     by_same false few = let one : differing (grown at x y (runs_from (suc at) xs ys)) ≡ suc (differing (runs_from (suc at) xs ys)) = grown_by_one at x y (runs_from (suc at) xs ys) in omega (arith, one, few)
 
+-- at most as many places differ as the old bytes have
 pub few_places : (old new : List ℕ) → differing (runs old new) ≤ length old
 few_places old new = few_from 0 old new
 
@@ -207,10 +216,12 @@ kid_tree (text s) n h = tt
 kid_tree (array ts) n h = trees_nth ts n h
 kid_tree (object ms) n h = trees_nth (values ms) n (values_trees ms h.1)
 
+-- the value that positions lead to in a tree is a tree itself
 pub at_tree : (ks : List ℕ) (t : Tree) → IsTree t → IsTree (value_at ks t)
 at_tree [] t h = h
 at_tree (k ∷ ks) t h = at_tree ks (nth (kids t) k) (kid_tree t k h)
 
+-- the value that positions lead to keeps within a depth that its tree has
 pub at_shallow : (ks : List ℕ) (t : Tree) (most : ℕ) → Reaches ks t → depth t ≤ most → depth (value_at ks t) ≤ most
 at_shallow [] t most r h = h
 at_shallow (k ∷ ks) t most r h = let kid : suc (depth (nth (kids t) k)) ≤ depth t = below_deep t k r.0 in at_shallow ks (nth (kids t) k) most r.1 (omega (arith, kid, h))
@@ -247,9 +258,11 @@ stands_there (l ∷ ls) k bytes t s c n v r acts =
 
 -- ---- the change of one pair
 
+-- a step to an equal tree leaves the progress as it was
 pub step_same : (edit : List ℕ → Option (List ℕ)) (after : Tree) (p : Progress) → same_tree p.«tree» after ≡ true → step edit after p ≡ p
 step_same edit after p h = rw h refl
 
+-- a step to another tree leads to that tree, and its bytes are edited if they were so far
 pub step_other : (edit : List ℕ → Option (List ℕ)) (after : Tree) (p : Progress) → same_tree p.«tree» after ≡ false → step edit after p ≡ record { «tree» = after; edited = option_and_then edit p.edited }
 step_other edit after p h = rw h refl
 
@@ -266,6 +279,7 @@ no_holder : {X : Type 0} (f : layout.Container → ℕ → Option (List ℕ)) (c
 unfolding spot_act
 no_holder f c k e = absurd (true≢false (sym (ap is_some e)))
 
+-- the place that a path leads to is that of a container's value, which stands there
 pub place_found : (bytes : List ℕ) (t : Tree) (path : Path) (ks : List ℕ) (p : Place) → IsTree t → IsValue bytes t (layout.root bytes) → positions path t ≡ Some ks → ActsThere bytes ks p → Found bytes t ks p.container p.number
 place_found bytes t path [] p is value at a = no_holder (spot_act []) (container_of p.container) p.number (a.acts (spot_act []))
 place_found bytes t path (k ∷ ks) p is value at a =
@@ -279,5 +293,6 @@ place_found bytes t path (k ∷ ks) p is value at a =
 
 -- ---- as many as may be nested
 
+-- a depth that is told not to be over what may be nested is within it
 pub not_over : (n : ℕ) (over : Bool) → over ≡ nat_lt 100 n → over ≡ false → n ≤ 100
 not_over n over e h = let low = ltb-false 100 n (sym e ∙ h) in omega (arith, low)

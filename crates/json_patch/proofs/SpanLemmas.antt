@@ -124,14 +124,17 @@ rising_behind spans k s low e rising = λ j d in'.
     same_at : (d : Span) → get_or spans k d ≡ s
     same_at d = get_or_default spans k d s low ∙ sym e
 
+-- where all spans end within a size, the one of a number does
 pub inside_at : (size k : ℕ) (spans : List Span) (s : Span) → k < length spans → s ≡ get_or spans k s → All (λ r. r.end ≤ size) spans → s.end ≤ size
 inside_at size k spans s low e all = subst (λ r. r.end ≤ size) (sym e) (all k s low)
 
+-- the spans from a number on are the one of that number, and those behind it
 pub next_span : (spans : List Span) (i : ℕ) (s : Span) → i < length spans → s ≡ get_or spans i s → drop i spans ≡ s ∷ drop (i + 1) spans
 next_span spans i s low e = drop_more spans i s low ∙ ap (λ q. q ∷ drop (i + 1) spans) (sym e)
 
 -- ---- in another order
 
+-- versions that differ within spans differ within the same spans in another order
 pub differ_moved : (old new : List ℕ) (spans others : List Span) → IsPermutation spans others → DifferInSpans old new spans → DifferInSpans old new others
 differ_moved old new spans others moved h = record {
   long = h.long;
@@ -147,6 +150,7 @@ all_first P xs x all = subst (All P) (take-append_seam xs (x ∷ [])) (All-take 
 all_last : {X : Type 0} (P : X → Type 0) (xs : List X) (x : X) → All P (xs ++ x ∷ []) → P x
 all_last P xs x all = All-head P x [] (subst (All P) (drop-append_seam xs (x ∷ [])) (All-drop P (length xs) (xs ++ x ∷ []) all))
 
+-- with one more write made, and its span noted, the versions differ within the noted spans
 pub noted_more : (old bytes : List ℕ) (spans : List Span) (at : ℕ) (xs : List ℕ) → at + length xs ≤ length bytes → DifferInSpans old bytes spans → DifferInSpans old (written bytes at xs) (spans ++ record { at = at; end = at + length xs } ∷ [])
 noted_more old bytes spans at xs fits h =
     let s : Span = record { at = at; end = at + length xs } in

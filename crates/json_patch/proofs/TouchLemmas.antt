@@ -56,6 +56,7 @@ module _ (at x y place a b : ℕ) where
 
 -- ---- one more byte written behind
 
+-- between bytes and themselves there are no runs
 pub no_runs : (at : ℕ) (xs : List ℕ) → runs_from at xs xs ≡ []
 no_runs at [] = refl
 no_runs at (x ∷ xs) = ap (λ b. cond b (runs_from (suc at) xs xs) (grown at x x (runs_from (suc at) xs xs))) (eq-eqb x x refl) ∙ no_runs (suc at) xs
@@ -96,6 +97,7 @@ one_more at (x ∷ xs) (z ∷ zs) (suc i) y low e same =
 
 -- ---- a write, byte by byte
 
+-- a write of no bytes changes nothing
 pub written_none : (new : List ℕ) (at : ℕ) → written new at [] ≡ new
 unfolding written
 written_none new at = let e : at + 0 ≡ at = omega arith in ap (λ n. take at new ++ drop n new) e ∙ take-append-drop at new
@@ -111,6 +113,7 @@ pub written_rest : (new : List ℕ) (at : ℕ) (xs : List ℕ) → at ≤ length
 written_rest new at xs low =
     ap₂ drop (sym (parts_length new at xs low)) (written_parts new at xs) ∙ drop-append_seam (take at new ++ xs) (drop (at + length xs) new)
 
+-- a write right behind some first bytes leaves these, and goes over the beginning of the rest
 pub written_seam : (pre bs new : List ℕ) → written (pre ++ bs) (length pre) new ≡ pre ++ (new ++ drop (length new) bs)
 unfolding written
 written_seam pre bs new = rw (take-append_seam pre bs, drop-append-add pre bs (length new)) refl
@@ -183,6 +186,7 @@ lengthened_apart at x y [] r e = ap (λ b. cond b (record { at = r.at; before = 
 lengthened_apart at x y (s ∷ []) r e = ap (λ rs. s ∷ rs) (lengthened_apart at x y [] r e)
 lengthened_apart at x y (s ∷ t ∷ rs) r e = ap (λ rs. s ∷ rs) (lengthened_apart at x y (t ∷ rs) r e)
 
+-- an item set to what it is leaves the list as it was
 pub set_again : {X : Type 0} (xs : List X) (i : ℕ) (x : X) → x ≡ get_or xs i x → set xs i x ≡ xs
 set_again [] i x e = refl
 set_again (y ∷ xs) zero x e = ap (λ z. z ∷ xs) e
@@ -203,6 +207,7 @@ grown_last at x y items p q e some ends is =
     ∙ sym (lengthened_last at x y (map run_of (take n items)) (run_of p) (eqb-true _ _ ends))
     ∙ ap (lengthened at x y) (sym (map-append run_of (take n items) (p ∷ [])) ∙ ap (map run_of) whole)
 
+-- where the last patch doesn't end at the place, the runs grow by a patch of that place alone
 pub added_last : (at x y : ℕ) (items : List Patch) (p q : Patch) → p ≡ get_or items (length items - 1) p → 1 ≤ length items → (p.at + length p.before.items == at) ≡ false
     → run_of q ≡ record { at = at; before = x ∷ []; after = y ∷ [] } → map run_of (items ++ q ∷ []) ≡ lengthened at x y (map run_of items)
 added_last at x y items p q e some ends is =
@@ -215,6 +220,7 @@ added_last at x y items p q e some ends is =
     ∙ append_assoc (map run_of (take n items)) (run_of p ∷ []) (record { at = at; before = x ∷ []; after = y ∷ [] } ∷ [])
     ∙ sym (lengthened_apart at x y (map run_of (take n items)) (run_of p) (eqb-false _ _ ends)) ∙ ap (lengthened at x y) runs_so
 
+-- where there is no patch yet, one of that place alone is what the runs grow to
 pub added_first : (at x y : ℕ) (items : List Patch) (q : Patch) → length items ≡ 0 → run_of q ≡ record { at = at; before = x ∷ []; after = y ∷ [] }
     → map run_of (items ++ q ∷ []) ≡ lengthened at x y (map run_of items)
 added_first at x y [] q none is = ap (λ r. r ∷ []) is
@@ -237,9 +243,11 @@ pub record Touched (bytes wanted : List ℕ) (left : List Write) (rs : List Run)
   pub inside : AreInside (length bytes) left
   pub whole : put_writes left so_far ≡ wanted
 
+-- before any write there are no runs, and all writes are left
 pub touched_none : (bytes : List ℕ) (ws : List Write) → AreInside (length bytes) ws → AreRising 0 ws → Touched bytes (put_writes ws bytes) ws []
 touched_none bytes ws inside rising = record { so_far = bytes; low = 0; size = refl; behind = refl; found = sym (no_runs 0 bytes); rising = rising; inside = inside; whole = refl }
 
+-- with the runs of the next write added, only the writes behind it are left
 pub touched_more : (bytes wanted : List ℕ) (w : Write) (left : List Write) (rs more : List Run) → Touched bytes wanted (w ∷ left) rs
     → AddsBytes bytes w.at rs more w.bytes.items → Touched bytes wanted left more
 touched_more bytes wanted w left rs more h f =
@@ -263,6 +271,7 @@ touched_more bytes wanted w left rs more h f =
       whole = h.whole;
     }
 
+-- the writes from a number on are the one of that number, and those behind it
 pub next_write : (items : List Write) (i : ℕ) (w : Write) → i < length items → w ≡ get_or items i w → drop i items ≡ w ∷ drop (i + 1) items
 next_write items i w low e = drop_more items i w low ∙ ap (λ q. q ∷ drop (i + 1) items) (sym e)
 

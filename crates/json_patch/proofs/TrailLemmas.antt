@@ -30,6 +30,8 @@ kid_at bytes t s d k (inr (ms, same, h)) low =
     subst (λ t. KidAt bytes d t k) (sym same)
     (nth (values ms) k, ap (λ ts. slice_get ts k) (values_list ms) ∙ found_at (values ms) k (omega (arith, low, many)), kid_stands bytes d (values ms) k (members_values bytes s.limit ms d h) low)
 
+-- the spot that positions lead to from a container's k-th value is where k and they lead from the
+-- container
 pub inner_at : (bytes : List ℕ) (t : Tree) (s : layout.Spot) (d : layout.Container) (k : ℕ) (ks : List ℕ) (u : Spot) (found : Option Spot) → IsValue bytes t s → container_at bytes s ≡ Some d → k < count bytes d
     → spot_of u ≡ child bytes d k → ((v : Tree) → IsValue bytes v (spot_of u) → StandsFor bytes (value_at ks v) found) → StandsFor bytes (value_at (k ∷ ks) t) found
 inner_at bytes t s d k ks u found v is low place h =

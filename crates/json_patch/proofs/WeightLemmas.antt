@@ -37,12 +37,14 @@ kid_weighs (text x) n w low = absurd (omega (arith, low))
 kid_weighs (array ts) n w low = let all : trees_weight (with_element ts n w) + weight (nth ts n) ≡ trees_weight ts + weight w = elements_with ts n w low in omega (arith, all)
 kid_weighs (object ms) n w low = let all : members_weight (with_nth_member ms n w) + weight (nth (values ms) n) ≡ members_weight ms + weight w = members_with ms n w low in omega (arith, all)
 
+-- a tree with a heavier value in the place of one of its own is heavier
 pub kid_heavier : (t : Tree) (n : ℕ) (v w : Tree) → n < length (tree_list (kids t)) → nth (kids t) n ≡ v → weight v < weight w → weight t < weight (with_kid t n w)
 kid_heavier t n v w low found more =
     let all : weight (with_kid t n w) + weight (nth (kids t) n) ≡ weight t + weight w = kid_weighs t n w low in
     let same : weight (nth (kids t) n) ≡ weight v = ap weight found in
     omega (arith, all, same, more)
 
+-- a tree with a lighter value in the place of one of its own is lighter
 pub kid_lighter : (t : Tree) (n : ℕ) (v w : Tree) → n < length (tree_list (kids t)) → nth (kids t) n ≡ v → weight w < weight v → weight (with_kid t n w) < weight t
 kid_lighter t n v w low found less =
     let all : weight (with_kid t n w) + weight (nth (kids t) n) ≡ weight t + weight w = kid_weighs t n w low in
@@ -61,6 +63,7 @@ members_out no_members n low = absurd (omega (arith, low))
 members_out (member k t ms) zero low = let some = some_weight t in omega (arith, some)
 members_out (member k t ms) (suc n) low = let rest : members_weight (without_nth_member ms n) < members_weight ms = members_out ms n (omega (arith, low)) in omega (arith, rest)
 
+-- a tree without one of its values is lighter
 pub kid_out_lighter : (t : Tree) (n : ℕ) → n < length (tree_list (kids t)) → weight (without_kid t n) < weight t
 kid_out_lighter null n low = absurd (omega (arith, low))
 kid_out_lighter (boolean b) n low = absurd (omega (arith, low))
@@ -75,12 +78,14 @@ elements_more : (ts : Trees) (u : Tree) → trees_weight (trees (tree_list ts ++
 elements_more no_trees u = omega arith
 elements_more (tree t ts) u = let rest : trees_weight (trees (tree_list ts ++ u ∷ [])) ≡ trees_weight ts + weight u = elements_more ts u in omega (arith, rest)
 
+-- a list with an element more is heavier
 pub pushed_heavier : (ts : Trees) (u : Tree) → weight (array ts) < weight (array (trees (tree_list ts ++ u ∷ [])))
 pushed_heavier ts u =
     let all : trees_weight (trees (tree_list ts ++ u ∷ [])) ≡ trees_weight ts + weight u = elements_more ts u in
     let some = some_weight u in
     omega (arith, all, some)
 
+-- a list of a tree and another value is heavier than the tree
 pub paired_heavier : (t u : Tree) → weight t < weight (array (trees (t ∷ u ∷ [])))
 paired_heavier t u = omega arith
 
@@ -98,6 +103,7 @@ members_more k u (member l t ms) none = by_bytes (bytes_eq k l) refl none (membe
     by_bytes true same h rest = absurd (true≢false (ap is_some h))
     by_bytes false other h rest = by_order (key_cmp k l) refl other (rest h)
 
+-- an object with a member of a new key is heavier
 pub put_heavier : (k : List ℕ) (u : Tree) (ms : Members) → get k ms ≡ None → weight (object ms) < weight (object (put k u ms))
 put_heavier k u ms none =
     let all : members_weight (put k u ms) ≡ members_weight ms + weight u = members_more k u ms none in

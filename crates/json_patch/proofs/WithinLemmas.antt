@@ -46,10 +46,12 @@ frame_in ds o = option_map frame (option_and_then (value_at ds) o)
 
 -- ---- positions that reach a value
 
+-- positions that reach a value of a tree find it there
 pub value_reached : (ks : List ℕ) (t : Tree) → Reaches ks t → value_at ks t ≡ Some (single.value_at ks t)
 value_reached [] t r = refl
 value_reached (k ∷ ks) t r = ap (option_and_then (value_at ks)) (kid_found t k r.0) ∙ value_reached ks (nth (kid_trees t) k) r.1
 
+-- positions that find a value in a tree reach it
 pub value_of_reached : (ks : List ℕ) (t v : Tree) → value_at ks t ≡ Some v → Reaches ks t
 value_of_reached [] t v e = tt
 value_of_reached (k ∷ ks) t v e = option_and_then_some (value_at ks) (slice_get (kids t) k) v e (λ u found h.
@@ -124,6 +126,7 @@ outside_both (js ∷ places) ks ds out = let rest = outside_both places ks ds ou
 pub within_itself : (t : Tree) → DifferWithin [] t t
 within_itself t ds out = refl
 
+-- with a value put into one of two trees, they differ within the places and that value's
 pub within_put : (places : List (List ℕ)) (ks : List ℕ) (v t u : Tree) → Reaches ks u → DifferWithin places t u → DifferWithin (places ++ ks ∷ []) t (put_at ks v u)
 within_put places ks v t u r within ds out = let both = outside_both places ks ds out in within ds both.0 ∙ sym (frame_put ks ds v u r both.1)
 
@@ -217,6 +220,7 @@ all_equal : (n : ℕ) → AreEqualBelow n
 all_equal zero t u low agree = absurd (omega (arith, low))
 all_equal (suc n) t u low agree = equal_above n t u (omega (arith, low)) (λ v w. all_equal n v w) agree (agree [])
 
+-- trees that differ within places only, and have the same values there, are equal
 pub within_same : (places : List (List ℕ)) (t u : Tree) → DifferWithin places t u → same_at places t u ≡ true → t ≡ u
 within_same places t u within same = all_equal (suc (depth t)) t u (omega arith) (λ ds. agree ds (outside_or_same places t u ds same))
   where
@@ -228,6 +232,7 @@ where_itself : (o : Option Tree) → same_where o o ≡ true
 where_itself None = refl
 where_itself (Some t) = tree_itself t
 
+-- a tree has the same values as itself, whatever the places
 pub same_at_itself : (places : List (List ℕ)) (t : Tree) → same_at places t t ≡ true
 same_at_itself [] t = refl
 same_at_itself (ks ∷ places) t = both_true (where_itself (value_at ks t)) (same_at_itself places t)

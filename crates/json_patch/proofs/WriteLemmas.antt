@@ -49,6 +49,8 @@ lies_in bytes c ts k h low =
       top = subst (λ n. start_from bytes c n (suc k) ≤ end bytes c) (sym left) (starts_within bytes c (rest ts k) (suc k) (end_before bytes c (suc k)) found.2);
     }
 
+-- a container's k-th value has its entry among the entries, and its room behind them, within the
+-- size
 pub lies : (bytes : List ℕ) (c : Container) (k : ℕ) → HasValues bytes c → k < count bytes (container_of c) → Lies bytes (container_of c) k
 lies bytes c k h low = let (ts, vs) = h.1 in lies_in bytes (container_of c) ts k vs low
 
@@ -83,6 +85,7 @@ narrow form (text x) e = let no : ⊥ = cc in absurd no
 narrow form (array ts) e = let no : ⊥ = cc in absurd no
 narrow form (object ms) e = let no : ⊥ = cc in absurd no
 
+-- the spelling of a value has as many bytes as the value measures
 pub size_of : (t : Tree) → length (spelling t).1 ≡ (measure t).1
 size_of t = ap (λ m. m.1) (measured-spelling t)
 
@@ -149,9 +152,11 @@ made_outside bytes c k v w u ws h low out fits at items at_value value all =
 
 -- ---- the writes, one after the other
 
+-- the writes from number i on
 abbrev pub left_writes : List Write → ℕ → List Write
 left_writes items i = drop i items
 
+-- what follows from a property of a result that is no error holds of that result too
 pub ok_then : {X E : Type 0} (r : Result X E) (P Q : X → Type 0) → ((x : X) → P x → Q x) → IfOk r P → IfOk r Q
 ok_then (Ok x) P Q f h = f x h
 ok_then (Err e) P Q f h = h

@@ -20,8 +20,10 @@ use Rattle.json_patch.specs.View.{runs_of, AreWithin}
 -- the plan is the change, within the limits
 abbrev pub IsPlanFor : Change → ℕ → ℕ → Planned → Type 0
 IsPlanFor change.Same nested size planned.Same = Unit {0}
-IsPlanFor (change.Parts rs) nested size (planned.Parts parts) = (nested ≤ max_depth) × (runs_of parts ≡ rs)
-IsPlanFor (change.Full new) nested size (planned.Full out) = (nested ≤ max_depth) × (size ≤ max_document_bytes) × (out.items ≡ new)
+IsPlanFor (change.Parts rs) nested size (planned.Parts parts) =
+    (nested ≤ max_depth) × (runs_of parts ≡ rs)
+IsPlanFor (change.Full new) nested size (planned.Full out) =
+    (nested ≤ max_depth) × (size ≤ max_document_bytes) × (out.items ≡ new)
 IsPlanFor c nested size plan = ⊥
 
 abbrev pub IsOther : Change → Type 0
@@ -45,7 +47,8 @@ IsAnswer c nested size (Err e) = IsPlanRefused c nested size e
 
 -- patches that lie within the bytes, and make of them as many that stand for the tree
 abbrev pub MakeStanding : List ℕ → Tree → List Run → Type 0
-MakeStanding bytes t rs = AreWithin (length bytes) rs × Stands (put_all rs bytes) t × (length (put_all rs bytes) ≡ length bytes)
+MakeStanding bytes t rs = AreWithin (length bytes) rs × Stands (put_all rs bytes) t
+    × (length (put_all rs bytes) ≡ length bytes)
 
 -- bytes that are changed in place stand for the tree
 abbrev pub StaysInPlace : List ℕ → Tree → Result Planned PlanError → Type 0
@@ -57,15 +60,19 @@ abbrev pub IsEncoded : Tree → Result Planned PlanError → Type 0
 IsEncoded t (Ok (planned.Full out)) = Stands out.items t × (length out.items ≤ max_document_bytes)
 IsEncoded t answer = Unit {0}
 
--- what the edit makes of bytes that stand for a tree: each answer exactly, unless memory runs out; bytes changed in place, and a new encoding, stand for the edited tree
+-- what the edit makes of bytes that stand for a tree: each answer exactly, unless memory runs out;
+-- bytes changed in place, and a new encoding, stand for the edited tree
 pub record Plans (bytes : List ℕ) (edit : Edit) (result : Result Planned PlanError) : Type 0 where
-  pub answer : (t : Tree) → Stands bytes t → IsAnswer (change_of bytes t edit) (depth (edited edit t)) (canonical_length (edited edit t)) result
+  pub answer : (t : Tree) → Stands bytes t
+      → IsAnswer (change_of bytes t edit) (depth (edited edit t)) (canonical_length (edited edit t))
+      result
   pub stands : (t : Tree) → Stands bytes t → StaysInPlace bytes (edited edit t) result
   pub encoded : (t : Tree) → Stands bytes t → IsEncoded (edited edit t) result
 
 -- the plan, where each pair is made in place; none, where one of them can't be
 abbrev pub PlansOrNot : List ℕ → Edit → Option Planned → Type 0
-PlansOrNot bytes edit None = (t : Tree) → Stands bytes t → (progress edit (in_place bytes t)).edited ≡ None
+PlansOrNot bytes edit None = (t : Tree) → Stands bytes t
+    → (progress edit (in_place bytes t)).edited ≡ None
 PlansOrNot bytes edit (Some plan) = Plans bytes edit (Ok plan)
 
 abbrev pub PlansInPlace : List ℕ → Edit → Result (Option Planned) PlanError → Type 0

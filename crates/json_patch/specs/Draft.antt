@@ -25,7 +25,8 @@ IsPairPut t p None = p.edited ≡ None
 IsPairPut t p (Some d) = (p.edited ≡ Some d.bytes.items) × IsDraft t d p.«tree»
 
 abbrev pub IsDraftOf : List ℕ → Edit → Option Draft → Type 0
-IsDraftOf bytes edit found = (t : Tree) → Stands bytes t → IsPairPut t (progress edit (in_place bytes t)) found
+IsDraftOf bytes edit found = (t : Tree) → Stands bytes t
+    → IsPairPut t (progress edit (in_place bytes t)) found
 
 -- the draft's bytes differ from the old ones within the noted spans only
 abbrev pub IsNoted : List ℕ → Draft → Type 0

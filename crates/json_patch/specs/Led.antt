@@ -43,7 +43,8 @@ IsMember bytes d (key k) (Some n) = (n < count bytes d) × (key_of bytes d n ≡
 IsMember bytes d l found = found ≡ None
 
 -- the number of the value that a leg finds in a container
-pub record IsNumber (bytes : List ℕ) (d : layout.Container) (l : Leg) (found : Option ℕ) : Type 0 where
+pub record IsNumber (bytes : List ℕ) (d : layout.Container) (l : Leg) (found : Option ℕ) : Type
+    0 where
   pub element : d.is_object ≡ false → place_in (count bytes d) l ≡ found
   pub member : d.is_object ≡ true → IsMember bytes d l found
 
@@ -54,7 +55,8 @@ pub record IsKid (bytes : List ℕ) (c : Container) (k : ℕ) (u : Spot) : Type 
   pub spot : spot_of u ≡ layout.child bytes (container_of c) k
 
 -- the leg leads from the tree, a container at the spot s, to its k-th value
-pub record EntersValue (bytes : List ℕ) (s : layout.Spot) (t : Tree) (l : Leg) (c : Container) (k : ℕ) (u : Spot) : Type 0 where
+pub record EntersValue (bytes : List ℕ) (s : layout.Spot) (t : Tree) (l : Leg) (c : Container)
+    (k : ℕ) (u : Spot) : Type 0 where
   pub is : layout.container_at bytes s ≡ Some (container_of c)
   pub kid : IsKid bytes c k u
   pub position : position_of t l ≡ k ∷ []
@@ -80,19 +82,23 @@ takes (end.Value p) = p.taken
 takes e = false
 
 abbrev pub staying : End → End
-staying (end.Value p) = end.Value (record { container = p.container; number = p.number; spot = p.spot; taken = false })
+staying (end.Value p) = end.Value
+    (record { container = p.container; number = p.number; spot = p.spot; taken = false })
 staying e = e
 
 -- an action at the end of the positions acts on this container's value
 pub record ActsThere (bytes : List ℕ) (ks : List ℕ) (p : Place) : Type 0 where
   pub kid : IsKid bytes p.container p.number p.spot
-  pub acts : (act : layout.Container → ℕ → Option (List ℕ)) → at_holder bytes act (layout.root bytes) ks ≡ act (container_of p.container) p.number
+  pub acts : (act : layout.Container → ℕ → Option (List ℕ))
+      → at_holder bytes act (layout.root bytes) ks ≡ act (container_of p.container) p.number
 
--- the path enters values to the end of the positions, or finds nothing; then a set adds a value or not
+-- the path enters values to the end of the positions, or finds nothing; then a set adds a value or
+-- not
 abbrev pub EndsAt : List ℕ → Tree → Path → List ℕ → End → Type 0
 EndsAt bytes t path ks end.Root = positions path t ≡ Some []
 EndsAt bytes t path ks (end.Value p) = (positions path t ≡ Some ks) × ActsThere bytes ks p
-EndsAt bytes t path ks (end.Nothing adds) = (positions path t ≡ None) × ((u : Tree) → is_some (try_set path u t) ≡ adds)
+EndsAt bytes t path ks (end.Nothing adds) =
+    (positions path t ≡ None) × ((u : Tree) → is_some (try_set path u t) ≡ adds)
 
 -- where a path leads in bytes that stand for the tree
 pub record IsLed (bytes : List ℕ) (t : Tree) (path : Path) (led : Led) : Type 0 where

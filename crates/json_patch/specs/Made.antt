@@ -50,7 +50,8 @@ abbrev pub HasTree : List ℕ → Type 0
 HasTree bytes = (t : Tree) × StandFor bytes t
 
 -- another value, a tree, is put where these positions lead
-pub record Puts (bytes : List ℕ) (u : Tree) (adding : Bool) (path : Path) (v : Tree) (ks : List ℕ) (ws : List Write) : Type 0 where
+pub record Puts (bytes : List ℕ) (u : Tree) (adding : Bool) (path : Path) (v : Tree) (ks : List ℕ)
+    (ws : List Write) : Type 0 where
   pub other : same_tree u (act_by adding path v u) ≡ false
   pub is : IsTree v
   pub at : positions path u ≡ Some ks
@@ -59,7 +60,8 @@ pub record Puts (bytes : List ℕ) (u : Tree) (adding : Bool) (path : Path) (v :
 abbrev pub Makes : List ℕ → Tree → Bool → Path → Tree → Made → Type 0
 Makes bytes u adding path v Kept = same_tree u (act_by adding path v u) ≡ true
 Makes bytes u adding path v (Written ks ws) = Puts bytes u adding path v ks.items ws.items
-Makes bytes u adding path v Anew = (same_tree u (act_by adding path v u) ≡ false) × (putting path v u bytes ≡ None)
+Makes bytes u adding path v Anew =
+    (same_tree u (act_by adding path v u) ≡ false) × (putting path v u bytes ≡ None)
 
 -- a value is taken out
 pub record TakesOut (bytes : List ℕ) (t : Tree) (path : Path) (ws : List Write) : Type 0 where

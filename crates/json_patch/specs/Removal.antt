@@ -13,8 +13,10 @@ abbrev pub Lighter : Bool → Tree → Tree → Type 0
 Lighter true other t = weight other < weight t
 Lighter false other t = other ≡ t
 
--- from the bytes and tree that are reached, the paths left lead on to what all of them lead to from the old ones
-pub record Reached (bytes : List ℕ) (t : Tree) (paths left : List Path) (new : List ℕ) (took : Bool) : Type 0 where
+-- from the bytes and tree that are reached, the paths left lead on to what all of them lead to from
+-- the old ones
+pub record Reached (bytes : List ℕ) (t : Tree) (paths left : List Path) (new : List ℕ)
+    (took : Bool) : Type 0 where
   pub other : Tree
   pub leads_on : all_removed left (in_place new other) ≡ all_removed paths (in_place bytes t)
   pub stands : StandFor new other

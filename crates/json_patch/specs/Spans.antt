@@ -7,7 +7,8 @@ use Rattle.json_patch.specs.declared.spans.Span.{Span}
 abbrev pub IsOutsideOf : ℕ → Span → Type 0
 IsOutsideOf i s = (i < s.at) ⊎ (s.end ≤ i)
 
--- the versions are as long, the spans lie within them, and a place outside all spans has one byte in both
+-- the versions are as long, the spans lie within them, and a place outside all spans has one byte
+-- in both
 pub record DifferInSpans (old new : List ℕ) (spans : List Span) : Type 0 where
   pub long : length new ≡ length old
   pub inside : All (λ s. s.end ≤ length old) spans

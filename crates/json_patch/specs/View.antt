@@ -14,4 +14,5 @@ runs_of parts = map run_of parts.patches.items
 
 abbrev pub AreWithin : ℕ → List Run → Type 0
 AreWithin size [] = Unit {0}
-AreWithin size (r ∷ rs) = (length r.before ≡ length r.after) × (r.at + length r.after ≤ size) × AreWithin size rs
+AreWithin size (r ∷ rs) = (length r.before ≡ length r.after) × (r.at + length r.after ≤ size)
+    × AreWithin size rs

@@ -27,7 +27,8 @@ longer r x y = record { at = r.at; before = r.before ++ x ∷ []; after = r.afte
 -- a differing place behind runs: the last one grows, where it ends there
 abbrev pub lengthened : ℕ → ℕ → ℕ → List Run → List Run
 lengthened at x y [] = run_at at x y ∷ []
-lengthened at x y (r ∷ []) = if r.at + length r.before == at then longer r x y ∷ [] else r ∷ run_at at x y ∷ []
+lengthened at x y (r ∷ []) = if r.at + length r.before == at then longer r x y ∷ []
+    else r ∷ run_at at x y ∷ []
 lengthened at x y (r ∷ s ∷ rs) = r ∷ lengthened at x y (s ∷ rs)
 
 -- these writes, one behind the other, make the wanted bytes

@@ -52,7 +52,8 @@ pub fn put_pairs(
 }
 
 fn start(alloc: Global, bytes: &[u8]) -> Result<Draft, AllocError>
-    ensures same { IfOk result (λ d. (d.bytes.items ≡ bytes.now) × (d.touched.items ≡ []) × (d.deep ≡ false)) }
+    ensures same { IfOk result (λ d. (d.bytes.items ≡ bytes.now) × (d.touched.items ≡ [])
+        × (d.deep ≡ false)) }
     ensures noted { IfOk result (IsNoted bytes.now) }
 {
     let mut copy = Vec::new(alloc);
@@ -73,8 +74,10 @@ fn put_pair(
 ) -> Result<Option<Draft>, AllocError>
     requires { HasTree draft.bytes.items }
     ensures put { IfOk result (λ found. (t u : Tree) → IsDraft t draft u →
-        IsPairPut t (change.replaced_by (act_by adding) pair.now.path (tree_of pair.now.value) (in_place draft.bytes.items u)) found) }
-    ensures noted { IfOk result (λ found. (old : List ℕ) → IsNoted old draft → IfSome found (IsNoted old)) }
+        IsPairPut t (change.replaced_by (act_by adding) pair.now.path (tree_of pair.now.value)
+        (in_place draft.bytes.items u)) found) }
+    ensures noted { IfOk result (λ found. (old : List ℕ) → IsNoted old draft
+        → IfSome found (IsNoted old)) }
 {
     match make_pair(alloc, &draft.bytes, pair, adding)? {
         Made::Kept => Ok(Some(draft)),

@@ -75,7 +75,8 @@ impl End {
 /// keys on the way.
 pub fn lead(alloc: Global, bytes: &[u8], legs: &[Leg]) -> Result<Led, AllocError>
     requires some { 1 ≤ length bytes.now }
-    ensures led { IfOk result (λ led. (t : Tree) → IsTree t → IsValue bytes.now t (layout.root bytes.now) →
+    ensures led { IfOk result (λ led. (t : Tree) → IsTree t
+        → IsValue bytes.now t (layout.root bytes.now) →
         IsLed bytes.now t (map leg_of legs.now) led) }
     ensures within { IfOk result (λ led. EndsInside bytes.now led.end) }
 {
@@ -109,7 +110,8 @@ pub fn lead(alloc: Global, bytes: &[u8], legs: &[Leg]) -> Result<Led, AllocError
 // Whether a set adds a value where a leg finds nothing, with more legs behind it.
 fn adds(bytes: &[u8], spot: Spot, leg: &Leg, rest: &[Leg]) -> bool
     requires inside { IsInside bytes.now spot }
-    ensures { (t u : Tree) → IsValue bytes.now t (spot_of spot) → path.child t (leg_of leg.now) ≡ None →
+    ensures { (t u : Tree) → IsValue bytes.now t (spot_of spot)
+        → path.child t (leg_of leg.now) ≡ None →
         is_some (at_parent (set_at u) (leg_of leg.now) (map leg_of rest.now) t) ≡ result }
 {
     if !rest.is_empty() {

@@ -1,4 +1,5 @@
-//! The stored change: which bytes of a stored document an edit touches, or the new encoding where it can't be made in place.
+//! The stored change: which bytes of a stored document an edit touches, or the new encoding where
+//! it can't be made in place.
 #![tactic(auto)]
 
 mod draft;

@@ -33,7 +33,8 @@ pub fn nests_over(pair: &Pair) -> bool
 }
 
 /// What a pair makes of a document, which may add a value or not: nothing of it is read but the
-/// path, the value that it finds and the entries around that. A value that is added has no place yet.
+/// path, the value that it finds and the entries around that. A value that is added has no place
+/// yet.
 pub fn make_pair(alloc: Global, bytes: &[u8], pair: &Pair, adding: bool) -> Result<Made, AllocError>
     requires { HasTree bytes.now }
     ensures { IfOk result (λ made. (u : Tree) → StandFor bytes.now u →

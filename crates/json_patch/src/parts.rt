@@ -30,7 +30,8 @@ impl Patch {
         after: u8,
     ) -> Result<Self, AllocError>
         requires small { at ≤ max_document_bytes }
-        ensures { IfOk result (λ p. run_of p ≡ record { at = at; before = before ∷ []; after = after ∷ [] }) }
+        ensures { IfOk result (λ p. run_of p
+            ≡ record { at = at; before = before ∷ []; after = after ∷ [] }) }
     {
         Ok(Patch {
             at: at as u32,

@@ -47,8 +47,8 @@ pub enum Planned {
 pub fn plan(alloc: Global, bytes: &[u8], edit: &Edit) -> Result<Planned, PlanError>
     requires document { IsDocument bytes.now }
     requires small { length bytes.now ≤ max_document_bytes }
-    // Each answer exactly, unless memory runs out; bytes changed in place, and a new encoding, stand
-    // for the edited tree.
+    // Each answer exactly, unless memory runs out; bytes changed in place, and a new encoding,
+    // stand for the edited tree.
     ensures { Plans bytes.now (edit_of edit.now) result }
 {
     match plan_in_place(alloc, bytes, edit)? {
@@ -124,7 +124,8 @@ fn finish(alloc: Global, bytes: &[u8], draft: Draft) -> Result<Option<Planned>, 
     requires small { length bytes.now ≤ max_document_bytes }
     requires draft { (e : ModelEdit) × IsDraftOf bytes.now e (Some draft) }
     requires noted { IsNoted bytes.now draft }
-    ensures { (e : ModelEdit) → IsDraftOf bytes.now e (Some draft) → PlansInPlace bytes.now e result }
+    ensures { (e : ModelEdit) → IsDraftOf bytes.now e (Some draft)
+        → PlansInPlace bytes.now e result }
 {
     if draft.deep && nests(&draft.bytes, root(&draft.bytes), MAX_DEPTH) {
         return Err(PlanError::Deep);
@@ -158,7 +159,8 @@ fn encode_anew(alloc: Global, bytes: &[u8], edit: &Edit) -> Result<Planned, Plan
 
 fn encoded(alloc: Global, tree: &Json) -> Result<Planned, PlanError>
     requires { depth (tree_of tree.now) ≤ max_depth }
-    ensures answer { IsAnswer (change.Full (canonical (tree_of tree.now))) (depth (tree_of tree.now))
+    ensures answer { IsAnswer (change.Full (canonical (tree_of tree.now)))
+        (depth (tree_of tree.now))
         (canonical_length (tree_of tree.now)) result }
     ensures encoded { IsEncoded (tree_of tree.now) result }
     ensures in_place { (bytes : List ℕ) → StaysInPlace bytes (tree_of tree.now) result }

@@ -20,7 +20,8 @@ pub fn is_restored(
 ) -> Result<bool, AllocError>
     requires old { 1 ≤ length old.now }
     requires new { 1 ≤ length new.now }
-    ensures { IfOk result (λ same. (t u : Tree) → Stands old.now t → IsValue new.now u (layout.root new.now) →
+    ensures { IfOk result (λ same. (t u : Tree) → Stands old.now t
+        → IsValue new.now u (layout.root new.now) →
         same ≡ same_at (map (λ ks. ks.items) touched.now) t u) }
 {
     for place in touched {
@@ -35,7 +36,8 @@ pub fn is_restored(
 fn same_value(alloc: Global, old: &[u8], new: &[u8], place: &[usize]) -> Result<bool, AllocError>
     requires old { 1 ≤ length old.now }
     requires new { 1 ≤ length new.now }
-    ensures { IfOk result (λ same. (t u : Tree) → Stands old.now t → IsValue new.now u (layout.root new.now) →
+    ensures { IfOk result (λ same. (t u : Tree) → Stands old.now t
+        → IsValue new.now u (layout.root new.now) →
         same ≡ same_where (value_at place.now t) (value_at place.now u)) }
 {
     let Some(before) = value_spot(old, root(old), place) else {
@@ -51,7 +53,8 @@ fn same_value(alloc: Global, old: &[u8], new: &[u8], place: &[usize]) -> Result<
 // The value that positions lead to from a value; none where there is none.
 fn value_spot(bytes: &[u8], spot: Spot, positions: &[usize]) -> Option<Spot>
     requires inside { IsInside bytes.now spot }
-    ensures at { (t : Tree) → IsValue bytes.now t (spot_of spot) → StandsFor bytes.now (value_at positions.now t) result }
+    ensures at { (t : Tree) → IsValue bytes.now t (spot_of spot)
+        → StandsFor bytes.now (value_at positions.now t) result }
     ensures within { IfSome result (IsInside bytes.now) }
 {
     let [k, rest @ ..] = positions else {

@@ -1,4 +1,5 @@
-//! The room of a value in its container: from its own place, or behind what stands before it, up to what stands behind it.
+//! The room of a value in its container: from its own place, or behind what stands before it, up to
+//! what stands behind it.
 ghost use Rattle.std.specs.Prelude.{◌≡◌, ◌≤◌, ◌<◌, ◌+◌, length};
 ghost use Rattle.binary_model.specs.Layout as layout;
 ghost use Rattle.binary_model.specs.Change as change;
@@ -39,7 +40,8 @@ pub fn room_end(bytes: &[u8], container: Container, k: usize) -> usize
     container.end(bytes)
 }
 
-// The end of the nearest of the first k values that has an offset, else of the keys, or of the entries.
+// The end of the nearest of the first k values that has an offset, else of the keys, or of the
+// entries.
 fn end_before(bytes: &[u8], container: Container, k: usize) -> usize
     requires stands { HasValues bytes.now container }
     requires inside { k ≤ layout.count bytes.now (container_of container) }

@@ -1,4 +1,5 @@
-//! The runs of places that differ between two versions of a document, found in the spans that were written alone.
+//! The runs of places that differ between two versions of a document, found in the spans that were
+//! written alone.
 ghost use Rattle.std.specs.Prelude.{◌≡◌, ◌≤◌, length, IfOk};
 ghost use Rattle.std.specs.List.Sorted.{IsNonDecreasingBy};
 ghost use Rattle.binary_model.specs.Change.{runs};

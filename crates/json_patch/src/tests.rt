@@ -115,7 +115,8 @@ fn used_length(alloc: Global, bytes: &[u8]) -> Result<u32, Fail> {
     Ok(used(bytes))
 }
 
-// Makes an edit in the bytes, and answers how many places differ; 1,000 where the change is full, 0 where it is none.
+// Makes an edit in the bytes, and answers how many places differ; 1,000 where the change is full, 0
+// where it is none.
 fn step(alloc: Global, bytes: &mut Vec<u8>, path: &str, value: &str) -> Result<usize, Fail> {
     let verb = if value == "" { Verb::Remove } else { Verb::Set };
     let edit = edit_of(alloc, verb, &[(path, value)])?;
@@ -144,7 +145,8 @@ fn step(alloc: Global, bytes: &mut Vec<u8>, path: &str, value: &str) -> Result<u
 /// Three members, whose values of two have an offset.
 const WORKED: &str = r#"{"a":1000,"b":"wxyz","c":"[1, 3, 5, 7]"}"#;
 
-/// How an edit is to be stored: the runs by their first places and lengths, where it is made in place.
+/// How an edit is to be stored: the runs by their first places and lengths, where it is made in
+/// place.
 #[derive(Clone, Copy)]
 enum Wanted<'a> {
     Same,

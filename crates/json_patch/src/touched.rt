@@ -16,7 +16,8 @@ pub fn runs_of_writes(alloc: Global, bytes: &[u8], writes: &[Write]) -> Result<P
     requires inside { AreInside (length bytes.now) writes.now }
     requires rising { AreRising 0 writes.now }
     requires small { length bytes.now ≤ max_document_bytes }
-    ensures { IfOk result (λ parts. runs_of parts ≡ runs bytes.now (put_writes writes.now bytes.now)) }
+    ensures { IfOk result (λ parts. runs_of parts
+        ≡ runs bytes.now (put_writes writes.now bytes.now)) }
 {
     let mut patches = Vec::new(alloc);
     for write in writes {
@@ -60,7 +61,8 @@ fn add_place(
     patches: &mut Vec<Patch>,
 ) -> Result<(), AllocError>
     requires small { at ≤ max_document_bytes }
-    ensures { OnOk result (map run_of patches.new.items ≡ lengthened at before after (map run_of patches.old.items)) }
+    ensures { OnOk result (map run_of patches.new.items
+        ≡ lengthened at before after (map run_of patches.old.items)) }
 {
     match patches.last_mut() {
         Some(last) if last.ends_at(at) => last.grow(before, after),

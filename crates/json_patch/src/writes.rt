@@ -57,7 +57,8 @@ pub fn replacing(
     requires inside { k < layout.count bytes.now (container_of container) }
     requires small { length bytes.now ≤ max_document_bytes }
     ensures writes { IfOk result (λ found. AreWritesFor bytes.now
-        (change.with_value bytes.now (canonical.spelling (tree_of value.now)) (container_of container) k)
+        (change.with_value bytes.now (canonical.spelling (tree_of value.now))
+        (container_of container) k)
         (option_map (λ ws. ws.items) found)) }
     // What the value's types keep.
     ensures is_tree { IfOk result (λ found. IfSome found (λ ws. IsTree (tree_of value.now))) }
@@ -123,7 +124,8 @@ fn two_writes(alloc: Global, first: Write, second: Write) -> Result<Vec<Write>, 
     Ok(writes)
 }
 
-/// The writes that remove a container's k-th value: one less is counted, and the entries move together.
+/// The writes that remove a container's k-th value: one less is counted, and the entries move
+/// together.
 pub fn removing(
     alloc: Global,
     bytes: &[u8],

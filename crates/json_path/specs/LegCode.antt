@@ -23,4 +23,5 @@ back (cell n) = refl
 back (last n) = refl
 
 abbrev pub path_code : Coded (List Leg)
-path_code = coded_list (code_by LegParts (coded⊎ (coded_list coded_ℕ) (coded⊎ coded_ℕ coded_ℕ)) to from back)
+path_code = coded_list (code_by LegParts (coded⊎ (coded_list coded_ℕ) (coded⊎ coded_ℕ coded_ℕ)) to
+    from back)

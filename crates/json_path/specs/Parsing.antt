@@ -2,7 +2,8 @@
 --     IsParsed      the path of the text, or exactly its first fault
 --     scan_from, scan_behind      what a scan gives from a place on, and behind a leg
 --     Finds      a leg, behind which the scan goes on, or the scan's fault
---     Reads, Closes, Counts, Unquotes      of a leg, of the bracket behind one, of a number in brackets, of a key in quotes
+--     Reads, Closes, Counts, Unquotes      of a leg, of the bracket behind one, of a number in
+--                                          brackets, of a key in quotes
 use Rattle.std.specs.Prelude.{◌≡◌, ℕ, ◌+◌, ◌<◌, ◌≤◌, ⊤, Bool, true, false, List, [], ◌∷◌, ◌++◌, length, drop, map, Vec, Result, Ok, Err}
 use Rattle.std.specs.declared.alloc.Global.{Global}
 use Rattle.std.specs.List.{AllByRecursion}
@@ -44,7 +45,8 @@ scan_behind bytes p ls = scan_from between bytes p.end (ls ++ leg_of p.leg ∷ [
 
 -- a leg that ends at this place or past it, and behind which the scan goes on; or the scan's fault
 abbrev pub Finds : (Path → Result Path PathFault) → List ℕ → ℕ → Result Parsed PathError → Type 0
-Finds found bytes at (Ok p) = (at ≤ p.end) × (p.end ≤ length bytes) × IsNumbered (leg_of p.leg) × ((ls : Path) → found ls ≡ scan_behind bytes p ls)
+Finds found bytes at (Ok p) = (at ≤ p.end) × (p.end ≤ length bytes) × IsNumbered (leg_of p.leg)
+    × ((ls : Path) → found ls ≡ scan_behind bytes p ls)
 Finds found bytes at (Err e) = (ls : Path) → IsFault (found ls) e
 
 -- the leg in which a scan stands
@@ -67,21 +69,27 @@ Closes l bytes at r = Finds (close_from l bytes at) bytes at r
 abbrev pub number_from : List ℕ → ℕ → Bool → Path → Result Path PathFault
 number_from bytes at from_end ls = scan_from (digits from_end at 0 0) bytes at ls
 
--- a number that ends at this place or past it, and behind which its bracket may close; or the scan's fault
+-- a number that ends at this place or past it, and behind which its bracket may close; or the
+-- scan's fault
 abbrev pub Counts : List ℕ → ℕ → Result Number PathError → Type 0
-Counts bytes at (Ok n) = (at ≤ n.end) × (n.end ≤ length bytes) × ((from_end : Bool) (ls : Path) → number_from bytes at from_end ls ≡ close_from (index_leg from_end n.value) bytes n.end ls)
-Counts bytes at (Err e) = (from_end : Bool) (ls : Path) → IsFault (number_from bytes at from_end ls) e
+Counts bytes at (Ok n) = (at ≤ n.end) × (n.end ≤ length bytes)
+    × ((from_end : Bool) (ls : Path)
+    → number_from bytes at from_end ls ≡ close_from (index_leg from_end n.value) bytes n.end ls)
+Counts bytes at (Err e) = (from_end : Bool) (ls : Path)
+    → IsFault (number_from bytes at from_end ls) e
 
 -- the leg that begins here behind so many others, which are fewer than a path may have
 abbrev pub ReadsLeg : List ℕ → ℕ → ℕ → Result Parsed PathError → Type 0
 ReadsLeg bytes at count (Ok p) =
     (at < p.end) × (p.end ≤ length bytes) × (count < max_legs) × IsNumbered (leg_of p.leg)
     × ((ls : Path) → length ls ≡ count → scan_from between bytes at ls ≡ scan_behind bytes p ls)
-ReadsLeg bytes at count (Err e) = (ls : Path) → length ls ≡ count → IsFault (scan_from between bytes at ls) e
+ReadsLeg bytes at count (Err e) = (ls : Path) → length ls ≡ count
+    → IsFault (scan_from between bytes at ls) e
 
 -- all legs
 abbrev pub ReadsLegs : List ℕ → Result (Vec Leg Global) PathError → Type 0
-ReadsLegs bytes (Ok legs) = (scan start [] 0 bytes ≡ Ok (map leg_of legs.items)) × (length legs.items ≤ max_legs) × AllByRecursion IsNumbered (map leg_of legs.items)
+ReadsLegs bytes (Ok legs) = (scan start [] 0 bytes ≡ Ok (map leg_of legs.items))
+    × (length legs.items ≤ max_legs) × AllByRecursion IsNumbered (map leg_of legs.items)
 ReadsLegs bytes (Err e) = IsFault (scan start [] 0 bytes) e
 
 -- what a scan gives in quotes, behind these bytes of a key
@@ -90,7 +98,9 @@ quotes_from bytes at k ls = scan_from (inside k) bytes at ls
 
 -- the quotes close and the key stands, whatever its bytes were read as; or the scan's fault
 abbrev pub Unquotes : List ℕ → ℕ → Result ℕ PathError → Type 0
-Unquotes bytes at (Ok end) = (at ≤ end) × (end ≤ length bytes) × ((k : List ℕ) (ls : Path) → quotes_from bytes at k ls ≡ scan_from between bytes end (ls ++ key k ∷ []))
+Unquotes bytes at (Ok end) = (at ≤ end) × (end ≤ length bytes)
+    × ((k : List ℕ) (ls : Path) → quotes_from bytes at k ls
+    ≡ scan_from between bytes end (ls ++ key k ∷ []))
 Unquotes bytes at (Err e) = (k : List ℕ) (ls : Path) → IsFault (quotes_from bytes at k ls) e
 
 abbrev pub quotes_state : Bool → List ℕ → PathState

@@ -51,6 +51,7 @@ not_restart (sized n m) ok s i past o script = refl
 not_restart absent ok s i past o script = refl
 not_restart memory ok s i past o script = refl
 
+-- an answer that is ok is neither a deadlock nor a lack of memory
 pub gets_lock : (r : Reply) → is_ok_reply r ≡ true → (not (is_deadlock r) && not (is_memory r)) ≡ true
 gets_lock full ok = refl
 gets_lock (parted n) ok = refl
@@ -69,6 +70,7 @@ gets_lock (sized n m) ok = refl
 gets_lock absent ok = refl
 gets_lock memory ok = absurd (true≢false (sym ok))
 
+-- an answer that is ok leaves whether the journal has a deadlock
 pub no_deadlock : (r : Reply) → is_ok_reply r ≡ true → (s i : ℕ) (p : List Entry) → has_deadlock (Did s i r ∷ p) ≡ has_deadlock p
 no_deadlock full ok s i p = refl
 no_deadlock (parted n) ok s i p = refl
@@ -117,6 +119,7 @@ alone_holds script s d past alone (h ∷ hs) = by_test (holds script h d past) r
 
 -- ---- the newest row
 
+-- the newest row of a history is the row itself, with the bytes that it shows
 pub rows_front : (later : List Record) (lobs : List Lob) (row : Row) (cs : List Change)
     → (ps : List Past) × (history_behind later lobs row cs ≡ record { trx = row.trx; bytes = content_behind later lobs row } ∷ ps)
 rows_front later lobs row [] = ([], refl)
@@ -130,6 +133,7 @@ shows_now lobs row = by_state row.state
     by_state store_of.live = ap (λ (ps : List Part). Some (joined ps)) (map-id (parts lobs row.lob))
     by_state store_of.deleted = refl
 
+-- a map over two lists joined is that over each, joined
 pub map_append : {A B : Type 0} (f : A → B) (xs ys : List A) → map f (xs ++ ys) ≡ map f xs ++ map f ys
 map_append f [] ys = refl
 map_append f (x ∷ xs) ys = ap (λ zs. f x ∷ zs) (map_append f xs ys)

@@ -29,6 +29,7 @@ use Rattle.kept_model.proofs.FrameLemmas.{says_same, under_way_same}
 use Rattle.kept_model.proofs.SeenLemmas.{history_committed, none_own}
 use Rattle.kept_model.proofs.CommitLegal.{commit_calm}
 
+-- what follows from a fact follows for the transactions of all rows of which it holds
 pub all_past : (P Q : ℕ → Type 0) (ps : List Past) → ((x : ℕ) → P x → Q x) → AllPast P ps → AllPast Q ps
 all_past P Q [] so all = tt
 all_past P Q (p ∷ ps) so all = (so p.trx all.0, all_past P Q ps so all.1)
@@ -50,6 +51,7 @@ begun_held d (Some u) tasks t is = by_task (tasks u).task is
     by_task (reading e f) h = absurd (cc h)
     by_task (Rattle.kept_model.specs.Engine.undoing v) h = absurd (cc h)
 
+-- a session that undoes on a document has its lock
 pub undone_held : (d : ℕ) (l : Option ℕ) (tasks : ℕ → Session) (t : ℕ) → front_by d l tasks ≡ undone t → l ≡ Some t
 undone_held d None tasks t is = absurd (cc is)
 undone_held d (Some u) tasks t is = by_task (tasks u).task is
@@ -75,6 +77,7 @@ front_released d s (Some t) tasks free = by_test (nat_eq t s) refl
     by_test true e = let one : t ≡ s = grind (arith, e) in ap (front_of d t) (sym (ap (λ (n : ℕ). (tasks n).task) one ∙ free))
     by_test false e = ap (λ (b : Bool). front_of d t (if b then resting else tasks t).task) e
 
+-- the greater of two numbers that are below n is below n
 pub less_both : (a b n : ℕ) → a < n → b < n → greater a b < n
 less_both a b n h g = by_test (nat_lt a b)
   where
@@ -82,20 +85,24 @@ less_both a b n h g = by_test (nat_lt a b)
     by_test true = g
     by_test false = h
 
+-- what holds of the owners of two lists of changes holds of those of each list
 pub of_parts : (P : Owner → Type 0) (ms ns : List Made) → OfOwners P (ms ++ ns) → OfOwners P ms × OfOwners P ns
 unfolding OfOwners
 of_parts P [] ns all = (tt, all)
 of_parts P (m ∷ ms) ns all = let rest = of_parts P ms ns all.1 in ((all.0, rest.0), rest.1)
 
+-- what holds of the owners of each of two lists of changes holds of those of both
 pub of_both : (P : Owner → Type 0) (ms ns : List Made) → OfOwners P ms → OfOwners P ns → OfOwners P (ms ++ ns)
 unfolding OfOwners
 of_both P [] ns all more = more
 of_both P (m ∷ ms) ns all more = (all.0, of_both P ms ns all.1 more)
 
+-- a change that one session makes isn't another session's
 pub one_owner_is : (s t : ℕ) (c : Call) (h : History) → nat_eq t s ≡ false → OfOwners (IsNot s) (one_made t c (newest_in t h) ∷ [])
 unfolding OfOwners
 one_owner_is s t c h apart = (apart, tt)
 
+-- a test that isn't true is false
 pub false_of : (b : Bool) → (b ≡ true → ⊥) → b ≡ false
 false_of true h = absurd (h refl)
 false_of false h = refl

@@ -31,6 +31,7 @@ use Rattle.kept_model.proofs.CommitLegal.{if_none, if_some}
 use Rattle.journal_model.specs.Legal.{Allowed, commit_due, restart_due}
 use Rattle.kept_model.proofs.CommitRows.{begun_held, undone_held, front_released, less_both, of_parts, of_both, one_owner_is, false_of}
 
+-- a number that equals one which is at most m is below m + 1
 pub less_of : (a b m : ℕ) → a ≡ b → a ≤ m → nat_lt b (suc m) ≡ true
 less_of a b m same high = grind (arith, same, high)
 

@@ -38,6 +38,7 @@ with_log o script e kept s = record {
   making = kept.making;
 }
 
+-- the planning event keeps all parts, where the session has its log
 pub plan_keeps : (o : Opening) (script : Script) (e : Engine) → Kept o script e → (s : ℕ) (p : Plan) (left : Left) (r : Reply) (next : Store) → Plans p e.store next
     → (read : List Part) → (e.sessions s).task ≡ fetching p.doc read → (e.sessions s).trx ≡ Some p.trx
     → (c : Call) → under_way script s e.journal ≡ Some (call c) → call_doc c ≡ p.doc → r ≡ reply_to c (newest o script s e.journal) → is_ok_reply r ≡ true
@@ -46,6 +47,7 @@ pub plan_keeps : (o : Opening) (script : Script) (e : Engine) → Kept o script 
 plan_keeps o script e kept s p left r next plans read fetched is c asked doc_is replies ok ends =
     begun_planned o script e s (with_log o script e kept s) p left r next plans read fetched is c asked doc_is replies ok ends
 
+-- the same where the session's log is begun in the event
 pub first_plan_keeps : (o : Opening) (script : Script) (e : Engine) → Kept o script e → (s page : ℕ) (p : Plan) (left : Left) (r : Reply) (next : Store)
     → Plans p (log_event s page e).store next → (read : List Part) → (e.sessions s).task ≡ fetching p.doc read → (e.sessions s).trx ≡ None → p.trx ≡ e.store.next_trx
     → (c : Call) → under_way script s e.journal ≡ Some (call c) → call_doc c ≡ p.doc → r ≡ reply_to c (newest o script s e.journal) → is_ok_reply r ≡ true

@@ -66,6 +66,7 @@ log_with trx place u (l ∷ ls) some = by_test (nat_eq l.trx trx) refl some (λ 
 
 -- ---- rows of other documents
 
+-- LOBs with the same parts at a row leave what it will show
 pub will_same : (left : Left) (old new : List Lob) (row : Row) → SameParts old new row → will_show left new row ≡ will_show left old row
 will_same left old new row same = by_state row.state refl
   where

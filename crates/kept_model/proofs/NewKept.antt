@@ -4,6 +4,7 @@ use Rattle.journal_model.specs.Journal.{Script, new_store}
 use Rattle.kept_model.specs.Kept.{Kept}
 use Rattle.kept_model.specs.First.{new_engine}
 
+-- all parts hold of the engine of a new store, whatever the script
 pub kept_new : (pages : ℕ) (script : Script) → Kept (new_store pages) script new_engine
 kept_new pages script = record {
   calm = record { legal = tt; commit = refl; restart = refl };

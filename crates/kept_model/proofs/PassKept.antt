@@ -21,6 +21,7 @@ use Rattle.kept_model.proofs.SessionLemmas.{self_eq}
 use Rattle.kept_model.proofs.CommitRows.{all_past}
 use Rattle.kept_model.proofs.UndoRows.{among_more}
 
+-- the second of two numbers is at most the greater
 pub greater_second : (a b : ℕ) → b ≤ greater a b
 greater_second a b = by_test (nat_lt a b) refl
   where
@@ -28,6 +29,7 @@ greater_second a b = by_test (nat_lt a b) refl
     by_test true e = omega arith
     by_test false e = grind (arith, e)
 
+-- what holds of the transactions of two lists of rows joined holds of those of each
 pub past_parts : (P : ℕ → Type 0) (ps qs : List Past) → AllPast P (ps ++ qs) → AllPast P ps × AllPast P qs
 past_parts P [] qs all = (tt, all)
 past_parts P (p ∷ ps) qs all = let rest = past_parts P ps qs all.1 in ((all.0, rest.0), rest.1)
@@ -36,6 +38,7 @@ past_both : (P : ℕ → Type 0) (ps qs : List Past) → AllPast P ps → AllPas
 past_both P [] qs all more = more
 past_both P (p ∷ ps) qs all more = (all.0, past_both P ps qs all.1 more)
 
+-- what holds of rows' transactions holds of other rows of the same ones
 pub past_same : (P : ℕ → Type 0) (ps qs : List Past) → SameTrx ps qs → AllPast P ps → AllPast P qs
 past_same P [] [] same all = tt
 past_same P [] (q ∷ qs) same all = absurd same

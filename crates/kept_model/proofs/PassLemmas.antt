@@ -37,6 +37,7 @@ pub record IsSplit (later : List Record) (lobs : List Lob) (row : Row) (cs : Lis
   pub trx : IsChain row (cs ++ c ∷ []) → own.trx ≡ c.trx
   pub some : newer ≢ [] → cs ≢ []
 
+-- one oldest change more is one oldest row more; in a chain the row above it is of that change
 pub split : (later : List Record) (lobs : List Lob) (row : Row) (cs : List Change) (c : Change) → IsSplit later lobs row cs c
 split later lobs row [] c = record { newer = []; own = _; before = _; all = refl; front = refl; trx = λ chain. chain.0.trx; some = λ no e. no refl }
 split later lobs row (d ∷ cs) c =
@@ -51,6 +52,7 @@ split later lobs row (d ∷ cs) c =
       some = λ no e. cc e;
     }
 
+-- other LOBs leave the transactions of a history's rows
 pub same_trx : (old new : List Lob) (row : Row) (cs : List Change) → SameTrx (history_on old row cs) (history_on new row cs)
 same_trx old new row [] = (refl, tt)
 same_trx old new row (c ∷ cs) = (refl, same_trx (lobs_laid (old_runs c.undo.body) old) (lobs_laid (old_runs c.undo.body) new) c.undo.before cs)
@@ -59,6 +61,7 @@ to_laid : (trx : ℕ) (rs : List Rattle.store_data.specs.Store.Run) (old new : L
 to_laid trx rs old new row [] all = same-laid rs old new row all
 to_laid trx rs old new row (c ∷ cs) all = (same-laid rs old new row all.0, elim all.1 [ inl e ↦ inl e | inr rest ↦ inr (to_laid trx rs old new c.undo.before cs rest) ])
 
+-- LOBs with the same parts at the rows down to a transaction show the same there
 pub same_to : (trx : ℕ) (old new : List Lob) (row : Row) (cs : List Change) → AllTo trx (SameParts old new) row cs → SameTo trx (history_on old row cs) (history_on new row cs)
 same_to trx old new row [] all = (sym (content-same old new row all), λ other. tt)
 same_to trx old new row (c ∷ cs) all = (
@@ -69,6 +72,7 @@ same_to trx old new row (c ∷ cs) all = (
   ],
 )
 
+-- what holds of the rows down to a transaction holds of the newest
 pub first_of : (trx : ℕ) (P : Row → Type 0) (row : Row) (cs : List Change) → AllTo trx P row cs → P row
 first_of trx P row [] all = all
 first_of trx P row (c ∷ cs) all = all.0
@@ -80,6 +84,7 @@ freed_live (versioned pieces touched) r before kind frees = absurd frees
 freed_live (patched old) r before kind frees = absurd frees
 freed_live removed r before kind frees = kind.1
 
+-- the oldest change of a chain made a row as its kind does, from the row before
 pub last_kind : (row : Row) (cs : List Change) (c : Change) → IsChain row (cs ++ c ∷ []) → (r : Row) × Rattle.store_model.specs.Well.IsKind c.undo.body r c.undo.before
 last_kind row [] c chain = (row, chain.0.kind)
 last_kind row (d ∷ cs) c chain = last_kind d.undo.before cs c chain.1

@@ -20,6 +20,7 @@ use Rattle.kept_model.proofs.CommitRows.{begun_held}
 
 -- ---- tasks
 
+-- a task that neither makes a change nor undoes one
 abbrev pub IsPlain : Task → Type 0
 IsPlain idle = Unit {0}
 IsPlain (asking d) = Unit {0}
@@ -28,6 +29,7 @@ IsPlain (making d left r) = ⊥
 IsPlain (reading d f) = Unit {0}
 IsPlain (undoing u) = ⊥
 
+-- a task that makes no change; it may undo one
 abbrev pub IsUnplanned : Task → Type 0
 IsUnplanned idle = Unit {0}
 IsUnplanned (asking d) = Unit {0}
@@ -142,6 +144,7 @@ module _ (o : Opening) (script : Script) (s : ℕ) (past : List Entry) where
     own_same = own_is;
   }
 
+-- entries that leave documents, and what others see, do so one after the other
 pub leaves_both : (o : Opening) (script : Script) (s : ℕ) (a b c : List Entry) → Leaves o script s a b → Leaves o script s b c → Leaves o script s a c
 leaves_both o script s a b c f g = record {
   others = λ t apart. record {

@@ -28,10 +28,12 @@ use Rattle.kept_model.proofs.CommitRows.{of_parts}
 
 -- ---- no change is of a transaction whose logs have no records
 
+-- none of the changes is of this transaction
 abbrev pub NoneOf : ℕ → List Change → Type 0
 NoneOf trx [] = Unit {0}
 NoneOf trx (c ∷ cs) = (c.trx ≢ trx) × NoneOf trx cs
 
+-- where none of two lists of changes is of a transaction, none of both joined is
 pub none_join : (trx : ℕ) (cs ds : List Change) → NoneOf trx cs → NoneOf trx ds → NoneOf trx (cs ++ ds)
 none_join trx [] ds a b = b
 none_join trx (c ∷ cs) ds a b = (a.0, none_join trx cs ds a.1 b)
@@ -51,10 +53,12 @@ not_first trx l ls none = by_test (nat_eq l.trx trx) refl none
     by_test true e g = absurd (true≢false g)
     by_test false e g = ((λ same. true≢false (sym (ap (λ (n : ℕ). nat_eq n trx) same ∙ self_eq trx) ∙ e)), g)
 
+-- a transaction without an active log has no change in active logs
 pub none_active : (trx d : ℕ) (ls : List Log) → stands trx ls ≡ false → NoneOf trx (active_changes d ls)
 none_active trx d [] none = tt
 none_active trx d (l ∷ ls) none = let n = not_first trx l ls none in none_join trx (changes_among d l.trx l.records) (active_changes d ls) (none_among trx d l.trx l.records n.0) (none_active trx d ls n.1)
 
+-- a transaction without a committed log has no change in committed logs
 pub none_committed : (trx d : ℕ) (ls : List Log) → stands trx ls ≡ false → NoneOf trx (committed_changes d ls)
 none_committed trx d [] none = tt
 none_committed trx d (l ∷ ls) none = let n = not_first trx l ls none in none_join trx (committed_changes d ls) (changes_among d l.trx l.records) (none_committed trx d ls n.1) (none_among trx d l.trx l.records n.0)

@@ -41,6 +41,7 @@ entries_other : (place : Rattle.page_model.specs.Pages.Address) (cs : List Chang
 entries_other place [] new = tt
 entries_other place (c ∷ cs) new = (new.0, entries_other place cs new.1)
 
+-- where no two changes stand at one place, no two of their records do
 pub entries_distinct : (cs : List Change) → AreNamedOnce cs → AreDistinct (map entry cs)
 entries_distinct [] once = tt
 entries_distinct (c ∷ cs) once = (entries_other c.place cs once.0, entries_distinct cs once.1)

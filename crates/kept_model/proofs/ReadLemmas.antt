@@ -28,6 +28,7 @@ seen_past : (f g : ℕ → Bool) (ps : List Past) → AllPast (λ x. f x ≡ g x
 seen_past f g [] all = refl
 seen_past f g (p ∷ ps) all = ap₂ (λ (b : Bool) (o : Option (List ℕ)). if b then p.bytes else o) all.0 (seen_past f g ps all.1)
 
+-- what follows from two facts follows for the transactions of all rows of which both hold
 pub both_past : (P Q R : ℕ → Type 0) (ps : List Past) → ((x : ℕ) → P x → Q x → R x) → AllPast P ps → AllPast Q ps → AllPast R ps
 both_past P Q R [] so all more = tt
 both_past P Q R (p ∷ ps) so all more = (so p.trx all.0 more.0, both_past P Q R ps so all.1 more.1)
@@ -79,6 +80,7 @@ passed_none s false n (m ∷ ms) all = absurd (cc all)
 abbrev pub shown_at : Opening → Script → ℕ → ℕ → ℕ → List Entry → Option Stored
 shown_at o script s d k past = if touches d (own script s past) then look (newest o script s past) d else look (docs o script past k) d
 
+-- a session whose view has k commits shows what it shows under k commits
 pub shown_is : (o : Opening) (script : Script) (s d k : ℕ) (past : List Entry) → view_of script s past ≡ Some k → shown o script s d past ≡ shown_at o script s d k past
 shown_is o script s d k past is = ap (λ (w : Option ℕ). if touches d (own script s past) then look (newest o script s past) d else option_and_then (λ q. look (docs o script past q) d) w) is
 

@@ -37,6 +37,7 @@ pub record HasTwo (rows : List Past) (row : Row) (before : Row) (older : List Ch
   pub before_trx : second.trx ≡ before.trx
   pub last : older ≡ [] → rest ≡ []
 
+-- behind a change there are two rows, the newest and the one before; without a further one no more
 pub has_two : (later : List Record) (lobs : List Lob) (row : Row) (c : Change) (cs : List Change) → HasTwo (history_behind later lobs row (c ∷ cs)) row c.undo.before cs
 has_two later lobs row c [] = record { first = _; second = _; rest = []; is = refl; trx = refl; before_trx = refl; last = λ e. refl }
 has_two later lobs row c (x ∷ xs) = record { first = _; second = _; rest = _; is = refl; trx = refl; before_trx = refl; last = λ e. absurd (cc e) }

@@ -22,6 +22,7 @@ use Rattle.kept_model.proofs.PlanKept.{stored_over}
 use Rattle.kept_model.proofs.AnswerRows.{rows_front}
 use Rattle.kept_model.proofs.SessionLemmas.{self_eq, is_eq, apart_of, by_session}
 
+-- another newest row of the same transaction leaves what holds of all rows' transactions
 pub front_past : (P : ℕ → Type 0) (p q : Past) (ps qs : List Past) → q.trx ≡ p.trx → qs ≡ ps → AllPast P (p ∷ ps) → AllPast P (q ∷ qs)
 front_past P p q ps qs trx same all = (subst P (sym trx) all.0, subst (AllPast P) (sym same) all.1)
 

@@ -13,10 +13,10 @@ use std::rt::Clock;
 use std::time::Instant;
 
 /// The most random bytes, but for one.
-const MOST_RANDOM: u32 = 256;
+const MAX_RANDOM: u32 = 256;
 
 /// The most places that are changed.
-const MOST_CHANGES: u32 = 8;
+const MAX_CHANGES: u32 = 8;
 
 fn random_byte(rng: &mut Pcg32) -> u8 {
     draw(rng, 256) as u8
@@ -27,7 +27,7 @@ fn random(alloc: Global, rng: &mut Pcg32) -> Result<Vec<u8>, AllocError> {
     // Most codes are no type: half of the inputs begin with one of the first 16.
     let bound = if draw(rng, 2) == 0 { 16 } else { 256 };
     bytes.push(draw(rng, bound) as u8)?;
-    for _ in 0..draw(rng, MOST_RANDOM) {
+    for _ in 0..draw(rng, MAX_RANDOM) {
         bytes.push(random_byte(rng))?;
     }
     Ok(bytes)
@@ -38,7 +38,7 @@ fn changed(alloc: Global, rng: &mut Pcg32, document: &[u8]) -> Result<Vec<u8>, A
     requires { 1 ≤ length document.now }
 {
     let mut bytes = document.to_vec(alloc)?;
-    for _ in 0..1 + draw(rng, MOST_CHANGES) {
+    for _ in 0..1 + draw(rng, MAX_CHANGES) {
         let at = draw(rng, u32::MAX) as usize % bytes.len();
         bytes[at] = random_byte(rng);
     }

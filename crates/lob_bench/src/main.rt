@@ -1,4 +1,5 @@
-// Runs a named kernel over made input, and prints a checksum; the time that it took goes to standard error.
+// Runs a named kernel over made input, and prints a checksum; the time that it took goes to
+// standard error.
 #![tactic(auto)]
 
 mod checksum;

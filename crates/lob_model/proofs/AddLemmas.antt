@@ -20,9 +20,12 @@ use Rattle.lob_model.proofs.SplitLemmas.{versions_cut, are_join, lists_join}
 use Rattle.lob_model.proofs.CutLemmas.{entries_cut, data_cut, long_cut, node_tail, tail_wide, heads_covered}
 use Rattle.lob_model.proofs.RestLemmas.{rest_spans, rest_covers, rest_wide, rest_lists, rest_versions}
 
+-- a piece of one version, without older ones
 abbrev pub alone : Version → Piece
 alone x = record { head = x; older = [] }
 
+-- the list of heads with the version's entry as its last node: what is written where a piece is
+-- added
 abbrev pub add_spans : Lob → List Piece → Version → List Span
 add_spans l ps x = list_spans (heads_base l.page) (map head_place ps ++ x.place ∷ [])
 
@@ -30,6 +33,7 @@ falling_added : (bound : ℕ) (ps : List Piece) (x : Version) → x.number < bou
 falling_added bound [] x known falling = ((known, tt), tt)
 falling_added bound (p ∷ ps) x known falling = (falling.0, falling_added bound ps x known falling.1)
 
+-- a piece of one version added behind others has this version behind theirs
 pub versions_added : (ps : List Piece) (x : Version) → versions (ps ++ alone x ∷ []) ≡ versions ps ++ x ∷ []
 versions_added ps x = versions_cut ps (alone x) []
 

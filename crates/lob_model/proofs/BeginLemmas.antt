@@ -17,6 +17,7 @@ use Rattle.lob_model.proofs.NodeLemmas.{off_pages, places_split, places_join}
 
 -- ---- entries one behind another
 
+-- a list of so many entries one behind another has that length
 pub long_from : (page at n : ℕ) → length (entries_from page at n) ≡ n
 long_from page at zero = refl
 long_from page at (suc n) = omega (arith, long_from page (at + 60) n)
@@ -61,6 +62,7 @@ index_places first page index = nth_from page 39 272 39 272 0 refl (lit≤ tt) (
 
 -- ---- a new LOB
 
+-- a new LOB has the shape of one
 pub begun_shape : (page : ℕ) → IsShaped (begun page) []
 begun_shape page = record {
   steady = tt;
@@ -88,6 +90,7 @@ begun_shape page = record {
       covers_nil n k,
     )
 
+-- a first page of version 1, without index pages and heads, and with its entries free, is a new LOB
 pub begun_stands : (pages : Pages) (page : ℕ) → IsPage pages 4 page → field pages page 40 4 ≡ 1 → field pages page 12 4 ≡ null_page
     → IsList pages (heads_base page) [] → IsList pages (free_base page) (first_entries page) → IsLob pages (begun page)
 begun_stands pages page first version chain heads free =
@@ -103,6 +106,7 @@ wider_places first page index (x ∷ xs) are = (wider x are.0, wider_places firs
     wider a (inl place) = inl place
     wider a (inr place) = inr (inr place.0, place.1)
 
+-- a LOB without free nodes keeps its shape with the free entries of a fresh index page
 pub refilled_shape : (lob : Lob) (page : ℕ) → IsShaped lob [] → lob.free ≡ [] → length (entries lob []) ≡ 10 + 272 * length lob.index → IsApartFromAll (lob_spans lob) (whole_page page) → IsShaped (refilled page lob) []
 refilled_shape lob page shape none all fresh =
     let lob' = refilled page lob in

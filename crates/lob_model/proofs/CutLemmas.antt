@@ -12,6 +12,7 @@ use Rattle.page_model.specs.Counts.{has, covers}
 use Rattle.page_model.proofs.CoverLemmas.{has_off, has_less, in_or_off, covers_cons, covers_nil, map_covers}
 use Rattle.lob_model.proofs.SplitLemmas.{versions_cut, places_cut}
 
+-- as many entries have a byte as before a piece, in the piece and behind it together
 pub entries_cut : (bs : List Piece) (p : Piece) (cs : List Piece) (n k : ℕ) → covers (map entry_span (map place_of (versions (bs ++ p ∷ cs)))) n k
     ≡ covers (map entry_span (map place_of (versions bs))) n k + (has (entry_span p.head.place) n k + covers (map entry_span (map place_of p.older)) n k) + covers (map entry_span (map place_of (versions cs))) n k
 entries_cut bs p cs n k =
@@ -32,6 +33,7 @@ entries_cut bs p cs n k =
       covers_cons (entry_span p.head.place) (map entry_span (map place_of p.older)) n k,
     )
 
+-- as many versions have a byte in their data as before a piece, in the piece and behind it together
 pub data_cut : (first : ℕ) (bs : List Piece) (p : Piece) (cs : List Piece) (n k : ℕ) → covers (map (data_span first) (versions (bs ++ p ∷ cs))) n k
     ≡ covers (map (data_span first) (versions bs)) n k + (has (data_span first p.head) n k + covers (map (data_span first) p.older) n k) + covers (map (data_span first) (versions cs)) n k
 data_cut first bs p cs n k =
@@ -41,6 +43,7 @@ data_cut first bs p cs n k =
     let one = ap (λ (xs : List Version). covers (map (data_span first) xs) n k) (versions_cut bs p cs) in
     omega (arith, one, map_covers (data_span first) vs (ps ++ ws) n k, map_covers (data_span first) ps ws n k, covers_cons (data_span first p.head) (map (data_span first) p.older) n k)
 
+-- there are as many entries as before a piece, in the piece and behind it together
 pub long_cut : (bs : List Piece) (p : Piece) (cs : List Piece) → length (map place_of (versions (bs ++ p ∷ cs))) ≡ length (map place_of (versions bs)) + (1 + length (map place_of p.older)) + length (map place_of (versions cs))
 long_cut bs p cs =
     let vs = versions bs in
@@ -65,11 +68,13 @@ node_tail a n k = elim (in_or_off (node_span a) n k) [
       omega (arith, has_off (node_span a) n k off, less)
 ]
 
+-- nodes and what is behind them, together, have a byte no more often than the entries do
 pub nodes_tails : (ys : List Address) (n k : ℕ) → covers (map node_span ys) n k + covers (map tail_span ys) n k ≤ covers (map entry_span ys) n k
 nodes_tails [] n k = omega (arith, covers_nil n k)
 nodes_tails (a ∷ ys) n k =
     omega (arith, nodes_tails ys n k, node_tail a n k, covers_cons (node_span a) (map node_span ys) n k, covers_cons (tail_span a) (map tail_span ys) n k, covers_cons (entry_span a) (map entry_span ys) n k)
 
+-- the base of a version list and the fields lie behind the entry's node, with no byte in both
 pub base_fields : (a : Address) (n k : ℕ) → has (base_span (versions_base a)) n k + has (fields_span a) n k ≤ has (tail_span a) n k
 base_fields a n k = elim (in_or_off (base_span (versions_base a)) n k) [
   | inl is ↦
@@ -81,12 +86,15 @@ base_fields a n k = elim (in_or_off (base_span (versions_base a)) n k) [
       omega (arith, has_off (base_span (versions_base a)) n k off, less)
 ]
 
+-- the fields of an entry have a byte at all
 pub fields_wide : (a : Address) → 1 ≤ (fields_span a).size
 fields_wide a = lit≤ tt
 
+-- what is behind the node of an entry has a byte at all
 pub tail_wide : (a : Address) → 1 ≤ (tail_span a).size
 tail_wide a = lit≤ tt
 
+-- the nodes of the heads have a byte no more often than the entries of all versions do
 pub heads_covered : (ps : List Piece) (n k : ℕ) → covers (map node_span (map head_place ps)) n k ≤ covers (map entry_span (map place_of (versions ps))) n k
 heads_covered [] n k = omega (arith, covers_nil n k)
 heads_covered (p ∷ more) n k =
@@ -103,6 +111,7 @@ heads_covered (p ∷ more) n k =
       map_covers entry_span (map place_of p.older) (map place_of rest) n k,
     )
 
+-- as many nodes of heads have a byte as before a piece, in the piece and behind it together
 pub heads_cut : (bs : List Piece) (p : Piece) (cs : List Piece) (n k : ℕ) → covers (map node_span (map head_place (bs ++ p ∷ cs))) n k
     ≡ covers (map node_span (map head_place bs)) n k + has (node_span p.head.place) n k + covers (map node_span (map head_place cs)) n k
 heads_cut [] p cs n k = omega (arith, covers_nil n k, covers_cons (node_span p.head.place) (map node_span (map head_place cs)) n k)

@@ -16,12 +16,14 @@ use Rattle.page_model.specs.Counts.{has, covers, AreWide}
 use Rattle.page_model.proofs.CoverLemmas.{covers_cons, covers_append, covers_once, wide_append, map_wide, map_covers, across_by, from_all_by, pairwise_by}
 use Rattle.lob_model.proofs.CoverLemmas.{nodes_covered}
 
+-- what a version has of its page has a byte at all
 pub data_wide : (first : ℕ) (x : Version) → 1 ≤ (data_span first x).size
 data_wide first x = elim (cases_eq x.page first) [
   | inl same ↦ let e = ap (λ (s : Span). s.size) (data_there first x same).2 in omega (arith, e)
   | inr other ↦ let e = ap (λ (s : Span). s.size) (data_elsewhere first x other).2 in omega (arith, e)
 ]
 
+-- each part of a LOB has a byte at all
 pub parts_wide : (lob : Lob) (loose : List Address) → AreWide (lob_parts lob loose)
 parts_wide lob loose =
     let data' = map (data_span lob.page) (versions lob.pieces) in
@@ -37,6 +39,7 @@ parts_wide lob loose =
       ),
     )
 
+-- how many parts of a LOB have a byte: those of each kind, added up
 pub parts_covers : (lob : Lob) (loose : List Address) (n k : ℕ) → covers (lob_parts lob loose) n k
     ≡ has (first_span lob.page) n k + has (base_span (heads_base lob.page)) n k + has (base_span (free_base lob.page)) n k + covers (map head_span lob.index) n k
     + covers (map entry_span (map place_of (versions lob.pieces))) n k + covers (map entry_span (lob.free ++ loose)) n k + covers (map (data_span lob.page) (versions lob.pieces)) n k
@@ -64,6 +67,8 @@ pub record Clear (xs : List Span) (lob : Lob) : Type 0 where
   pub entries : AreApart xs (map entry_span (map place_of (versions lob.pieces)))
   pub «data» : AreApart xs (map (data_span lob.page) (versions lob.pieces))
 
+-- spans with no byte but of the free list's base, and of free and loose entries, are clear of the
+-- rest
 pub clear_by : (xs : List Span) (lob : Lob) (loose : List Address) → AreWide xs → IsShaped lob loose
     → ((n k : ℕ) → covers xs n k ≤ has (base_span (free_base lob.page)) n k + covers (map entry_span (lob.free ++ loose)) n k) → Clear xs lob
 clear_by xs lob loose wide shape within =

@@ -50,16 +50,19 @@ free_inside lob loose all within n k =
 
 -- ---- places
 
+-- where all of two lists joined are places of entries, all of each list are
 pub places_split : (first : ℕ) (index : List ℕ) (xs ys : List Address) → AreEntryPlaces first index (xs ++ ys) → AreEntryPlaces first index xs × AreEntryPlaces first index ys
 places_split first index [] ys are = (tt, are)
 places_split first index (x ∷ xs) ys are = let rest = places_split first index xs ys are.1 in ((are.0, rest.0), rest.1)
 
+-- two lists of places of entries, joined, are such a list
 pub places_join : (first : ℕ) (index : List ℕ) (xs ys : List Address) → AreEntryPlaces first index xs → AreEntryPlaces first index ys → AreEntryPlaces first index (xs ++ ys)
 places_join first index [] ys a b = b
 places_join first index (x ∷ xs) ys a b = (a.0, places_join first index xs ys a.1 b)
 
 -- ---- the two changes
 
+-- with its first free node out of the list, a LOB stands but for it, and only its pages changed
 pub free_taken : (old new : Pages) (lob : Lob) (node : Address) (rest : List Address) → IsLob old lob → lob.free ≡ node ∷ rest
     → IsList new (free_base lob.page) rest → SameOutside (list_spans (free_base lob.page) (node ∷ rest)) old new
     → IsLobBut new (record lob { free = rest }) (node ∷ []) × SameOutside (lob_spans lob) old new
@@ -79,6 +82,7 @@ free_taken old new lob node rest is free list same =
       within_pages (list_spans (free_base lob.page) all) old new lob [] is.shape (free_inside lob [] all within) same,
     )
 
+-- with its loose node in front of the free ones, a LOB stands whole, and only its pages changed
 pub node_given : (old new : Pages) (lob : Lob) (node : Address) → IsLobBut old lob (node ∷ [])
     → IsList new (free_base lob.page) (node ∷ lob.free) → SameOutside (list_spans (free_base lob.page) (node ∷ lob.free)) old new
     → IsLob new (record lob { free = node ∷ lob.free }) × SameOutside (lob_spans lob) old new

@@ -6,12 +6,15 @@ use Rattle.store_data.specs.Store.{Version, Piece}
 use Rattle.store_data.specs.Pieces.{Part, version_at, piece_at, part_of, pushed, all_but_last, popped_to}
 use Rattle.lob_model.specs.Pieces.{lob_at, joined, moved}
 
+-- a first version that is old enough is the one that is read
 pub newest_here : (v : ℕ) (x : Version) (more : List Version) → x.number ≤ v → version_at (x ∷ more) v ≡ Some x
 newest_here v x more below = cond-true (nat_le x.number v) (Some x) (version_at more v) (le-leb x.number v below)
 
+-- where the first version is too new, those behind it are read as if it weren't there
 pub newest_past : (v : ℕ) (x : Version) (more : List Version) → v < x.number → version_at (x ∷ more) v ≡ version_at more v
 newest_past v x more above = cond-false (nat_le x.number v) (Some x) (version_at more v) (lt-leb x.number v above)
 
+-- where there are no versions, none is read
 pub newest_none : (v : ℕ) → version_at [] v ≡ None
 newest_none v = refl
 
@@ -23,11 +26,13 @@ newest_moved v place x more = elim (cases_lt v x.number) [
   | inr below ↦ ap (option_map part_of) (newest_here v (moved place x) more below) ∙ sym (ap (option_map part_of) (newest_here v x more below))
 ]
 
+-- before the pushed version a piece reads as it did
 pub push_older : (new : Version) (node : Address) (p : Piece) (v : ℕ) → v < new.number
     → option_map part_of (piece_at (pushed node new p) v) ≡ option_map part_of (piece_at p v)
 push_older new node p v above =
     ap (option_map part_of) (newest_past v (moved p.head.place new) (moved node p.head ∷ p.older) above) ∙ newest_moved v node p.head p.older
 
+-- from the pushed version on a piece reads as this one
 pub push_newest : (new : Version) (node : Address) (p : Piece) (v : ℕ) → new.number ≤ v
     → option_map part_of (piece_at (pushed node new p) v) ≡ Some (part_of new)
 push_newest new node p v below = ap (option_map part_of) (newest_here v (moved p.head.place new) (moved node p.head ∷ p.older) below)
@@ -38,6 +43,7 @@ found : {A : Type 0} (o : Option A) → IfSome o (λ y. o ≡ Some y)
 found None = tt
 found (Some y) = refl
 
+-- a version that is read once the oldest was dropped is the one that was read before
 pub newest_kept : (v : ℕ) (x : Version) (older : List Version) → IfSome (version_at (x ∷ all_but_last older) v) (λ y. version_at (x ∷ older) v ≡ Some y)
 newest_kept v x [] = found (version_at (x ∷ []) v)
 newest_kept v x (z ∷ []) =
@@ -83,6 +89,7 @@ same_joined (Some x) (Some y) (Some bytes) same = ap (λ (xs : List ℕ). Some (
     bytes_or None = []
     bytes_or (Some c) = c.bytes
 
+-- with another piece in the place of one that reads as it does, the document reads as it did
 pub read_before : (v : ℕ) (before : List Piece) (p q : Piece) (behind : List Piece) → option_map part_of (piece_at p v) ≡ option_map part_of (piece_at q v)
     → lob_at v (before ++ p ∷ behind) ≡ lob_at v (before ++ q ∷ behind)
 read_before v [] p q behind same = same_joined (piece_at p v) (piece_at q v) (lob_at v behind) same
@@ -98,6 +105,7 @@ still_behind None rest rest' still = tt
 still_behind (Some x) None rest' still = tt
 still_behind (Some x) (Some bytes) rest' still = ap (joined (Some x)) still
 
+-- what is read of a document with one piece is read with another that reads all that the first does
 pub read_still : (v : ℕ) (before : List Piece) (p q : Piece) (behind : List Piece) → IfSome (piece_at p v) (λ x. piece_at q v ≡ Some x)
     → IfSome (lob_at v (before ++ p ∷ behind)) (λ bytes. lob_at v (before ++ q ∷ behind) ≡ Some bytes)
 read_still v [] p q behind still = still_joined (piece_at p v) (piece_at q v) (lob_at v behind) still

@@ -38,6 +38,7 @@ fresh_other lob d fresh same = elim fresh.0 [ inl other ↦ other same | inr (in
 pub entry_moved : (pages : Pages) (a b : Address) (x : Version) → IsEntryOf pages a x → IsEntryOf pages a (moved b x)
 entry_moved pages a b x is = record { creator = is.creator; modifier = is.modifier; creator_undo = is.creator_undo; modifier_undo = is.modifier_undo; page = is.page; long = is.long; number = is.number }
 
+-- the data of a version stays where its entry has moved to another place
 pub data_moved : (pages : Pages) (first : ℕ) (b : Address) (x : Version) → HasData pages first x → HasData pages first (moved b x)
 data_moved pages first b x is = record { place = is.place; fits = is.fits; bytes = is.bytes; type' = is.type' }
 

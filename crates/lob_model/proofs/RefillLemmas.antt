@@ -23,6 +23,7 @@ use Rattle.lob_model.proofs.NodeLemmas.{off_pages}
 use Rattle.lob_model.proofs.BeginLemmas.{refilled_shape}
 use Rattle.lob_model.proofs.PushLemmas.{fresh_off, fresh_other}
 
+-- a LOB but for a loose node stays where nothing changes but the entry of that node
 pub loose_changed : (old new : Pages) (lob : Lob) (node : Address) → IsLobBut old lob (node ∷ []) → SameOutside (entry_span node ∷ []) old new → IsLobBut new lob (node ∷ [])
 loose_changed old new lob node is same =
     let first = lob.page in
@@ -46,6 +47,7 @@ loose_changed old new lob node is same =
       shape = is.shape;
     }
 
+-- a LOB stays where nothing changes but a page that it doesn't have
 pub fresh_changed : (old new : Pages) (lob : Lob) (loose : List Address) (d : ℕ) → IsLobBut old lob loose → IsApartFromAll (lob_spans lob) (whole_page d) → SameOutside (whole_page d ∷ []) old new → IsLobBut new lob loose
 fresh_changed old new lob loose d is fresh same =
     parts_kept (whole_page d ∷ []) old new lob loose same (parts_in_pages (whole_page d ∷ []) lob loose is.shape.places (apart_flip (lob_spans lob) (whole_page d) fresh)) is

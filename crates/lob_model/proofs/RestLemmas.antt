@@ -19,6 +19,7 @@ abbrev pub rest_spans : List Piece → List Span
 rest_spans [] = []
 rest_spans (p ∷ more) = tail_span p.head.place ∷ (map entry_span (map place_of p.older) ++ rest_spans more)
 
+-- the heads' nodes and the rest, together, have a byte no more often than the entries do
 pub rest_covers : (ps : List Piece) (n k : ℕ) → covers (map node_span (map head_place ps)) n k + covers (rest_spans ps) n k ≤ covers (map entry_span (map place_of (versions ps))) n k
 rest_covers [] n k = omega (arith, covers_nil n k)
 rest_covers (p ∷ more) n k =
@@ -37,10 +38,12 @@ rest_covers (p ∷ more) n k =
       map_covers entry_span (map place_of p.older) (map place_of rest) n k,
     )
 
+-- each span of the rest has a byte at all
 pub rest_wide : (ps : List Piece) → AreWide (rest_spans ps)
 rest_wide [] = tt
 rest_wide (p ∷ more) = (tail_wide p.head.place, wide_append (map entry_span (map place_of p.older)) (rest_spans more) (map_wide entry_span (map place_of p.older) (λ a. lit≤ tt)) (rest_wide more))
 
+-- the version lists stay where nothing changes in the entries but for the nodes of the heads
 pub rest_lists : (xs : List Span) (old new : Pages) (ps : List Piece) → SameOutside xs old new → AreApart xs (rest_spans ps) → HaveLists old ps → HaveLists new ps
 rest_lists xs old new [] same apart have = tt
 rest_lists xs old new (p ∷ more) same apart have =
@@ -51,6 +54,7 @@ rest_lists xs old new (p ∷ more) same apart have =
       rest_lists xs old new more same parts.1 have.2,
     )
 
+-- the versions stay where nothing changes in their data, nor in the entries but for those nodes
 pub rest_versions : (xs : List Span) (old new : Pages) (first : ℕ) (ps : List Piece) → SameOutside xs old new → AreApart xs (rest_spans ps) → AreApart xs (map (data_span first) (versions ps)) → AreVersions old first (versions ps) → AreVersions new first (versions ps)
 rest_versions xs old new first [] same apart there are = tt
 rest_versions xs old new first (p ∷ more) same apart there are =

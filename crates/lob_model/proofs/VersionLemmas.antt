@@ -14,6 +14,7 @@ use Rattle.page_model.specs.Counts.{has, covers}
 use Rattle.page_model.proofs.CoverLemmas.{has_less, covers_cons, covers_nil, covers_once, map_wide, across_by, from_all_by}
 use Rattle.lob_model.proofs.FreeLemmas.{parts_covers, data_wide}
 
+-- a LOB stands with another number as its version, which none in it exceeds; only its pages changed
 pub version_changed : (old new : Pages) (lob : Lob) (v : ℕ) → IsLob old lob → AreFalling (v + 1) lob.pieces → SetsField lob.page 40 4 v old new
     → IsLob new (record lob { version = v }) × SameOutside (lob_spans lob) old new
 version_changed old new lob v is falling sets =

@@ -8,6 +8,7 @@ use Rattle.page_model.specs.Spans.{span, SetsField, SetsAddress}
 use Rattle.page_model.proofs.FrameLemmas.{field_set, field_kept, outside_wider, outside_then, off_part, big_from-same, big_from-shifted, field-written_in}
 use Rattle.lob_pages.specs.Entries.{SameBefore}
 
+-- a field of a lone page is the number in the page's bytes
 pub alone : (bytes : List ℕ) (at width : ℕ) → field (bytes ∷ []) 0 at width ≡ big_number width (drop at bytes)
 unfolding field
 alone bytes at width = refl
@@ -29,6 +30,7 @@ behind bytes k i width =
     get_or-drop i (drop k bytes) j 0 ∙ (get_or-drop k bytes (i + j) 0 ∙ (ap (λ (m : ℕ). get_or bytes m 0) (omega arith) ∙ sym (get_or-drop (k + i) bytes j 0))))
     ∙ sym (alone bytes (k + i) width))
 
+-- a field of bytes is a number that its width can hold
 pub small_alone : (bytes : List ℕ) (at width : ℕ) → ((i : ℕ) → slice_index bytes i < 256) → field (bytes ∷ []) 0 at width < 256 ^ width
 small_alone bytes at width each =
     let same : field (bytes ∷ []) 0 at width ≡ big_from at width bytes = alone bytes at width ∙ big_from-shifted 0 at width (drop at bytes) bytes (λ k below. ap (λ (m : ℕ). get_or (drop at bytes) m 0) (omega arith) ∙ get_or-drop at bytes k 0) in
@@ -52,15 +54,18 @@ both_set at x a b c s t = record {
 
 -- ---- numbers written one behind another
 
+-- a field stays where nothing before its end changes
 pub field_before : (n i width : ℕ) (a b : Pages) → SameBefore n a b → i + width ≤ n → field b 0 i width ≡ field a 0 i width
 unfolding field
 field_before n i width a b same within =
     big_from-same 0 width _ _ (λ k low high. get_or-drop i (page_at b 0) k 0 ∙ same (i + k) (omega arith) ∙ sym (get_or-drop i (page_at a 0) k 0))
 
+-- so does an address
 pub address_before : (n i : ℕ) (a b : Pages) → SameBefore n a b → i + 6 ≤ n → address_at b 0 i ≡ address_at a 0 i
 address_before n i a b same within =
     ap₂ (λ (p k : ℕ). let y : Address = record { page = p; at = k } in y) (field_before n i 4 a b same (omega arith)) (field_before n (i + 4) 2 a b same (omega arith))
 
+-- a page is the same as itself before any place
 pub same_still : (n : ℕ) (a : Pages) → SameBefore n a a
 same_still n a k below = refl
 
@@ -68,16 +73,19 @@ same_still n a k below = refl
 pub then_number : (n width v : ℕ) (a b c : Pages) → SetsField 0 n width v a b → SameBefore (n + width) b c → (field c 0 n width ≡ v) × SameBefore n a c
 then_number n width v a b c s same = (field_before (n + width) n width b c same (omega arith) ∙ s.here, λ k below. same k (omega arith) ∙ s.outside.bytes 0 k (inr (inl below), tt))
 
+-- an address that was set stays, with what is before it, where only bytes behind it change
 pub then_address : (n : ℕ) (x : Address) (a b c : Pages) → SetsAddress 0 n x a b → SameBefore (n + 6) b c → (address_at c 0 n ≡ x) × SameBefore n a c
 then_address n x a b c s same = (address_before (n + 6) n b c same (omega arith) ∙ s.here, λ k below. same k (omega arith) ∙ s.outside.bytes 0 k (inr (inl below), tt))
 
 -- ---- bytes in a page
 
+-- a field within bytes that were written is that field of the bytes
 pub in_written : (pages : Pages) (page at : ℕ) (bytes : List ℕ) → Fits pages page at (length bytes)
     → (i width at' : ℕ) → i + width ≤ length bytes → at' ≡ at + i → field (written pages page at bytes) page at' width ≡ field (bytes ∷ []) 0 i width
 in_written pages page at bytes fits i width at' inside is =
     ap (λ (m : ℕ). field (written pages page at bytes) page m width) is ∙ field-written_in pages page at bytes i width fits inside ∙ sym (alone bytes i width)
 
+-- a field within bytes that were read is that field of the bytes
 pub in_read : (pages : Pages) (page at n : ℕ) (bytes : List ℕ) → bytes ≡ bytes_at pages page at n
     → (i width at' : ℕ) → i + width ≤ n → at' ≡ at + i → field pages page at' width ≡ field (bytes ∷ []) 0 i width
 unfolding field

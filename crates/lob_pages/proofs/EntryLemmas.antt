@@ -78,10 +78,12 @@ first_agrees pages page bytes f agree is = record {
 
 -- ---- as the calls read and write
 
+-- an entry in 60 bytes that were read at an address is the entry that stands there
 pub entry_read : (told : Option Pages) (a : Address) (bytes : List ℕ) (e : Entry) → IsEntryAt (bytes ∷ []) (at_place 0 0) e
     → IfSome told (λ pages. bytes ≡ bytes_at pages a.page a.at 60) → IfSome told (λ pages. IsEntryAt pages a e)
 entry_read told a bytes e is = if_told told _ _ (λ pages same. entry_agrees pages a bytes e (in_read pages a.page a.at 60 bytes same) is)
 
+-- the 60 bytes of an entry, written at an address, set the entry there
 pub entry_written : (old new : Option Pages) (count : ℕ) (a : Address) (bytes : List ℕ) (e : Entry) → ((pages : Pages) → old ≡ Some pages → AreWhole pages count) → FitsPage count a
     → length bytes ≡ 60 → IsEntryAt (bytes ∷ []) (at_place 0 0) e → new ≡ option_map (λ pages. written pages a.page a.at bytes) old → Told (SetsEntry a e) old new
 entry_written old new count a bytes e whole fit size is now =
@@ -96,6 +98,7 @@ entry_written old new count a bytes e whole fit size is now =
 pub from_fields : (bytes : List ℕ) (k n : ℕ) → k ≡ 28 → length bytes ≡ n → take (n - k) (drop k bytes) ≡ drop 28 bytes
 from_fields bytes k n is size = ap (λ (m : ℕ). take (m - k) (drop k bytes)) (sym size) ∙ (take_rest bytes k ∙ ap (λ (m : ℕ). drop m bytes) is)
 
+-- the last 32 of an entry's 60 bytes, written at their place, set its fields there
 pub fields_written : (old new : Option Pages) (count : ℕ) (a : Address) (bytes part : List ℕ) (e : Entry) → ((pages : Pages) → old ≡ Some pages → AreWhole pages count) → FitsPage count a
     → part ≡ drop 28 bytes → length part ≡ 32 → HasEntryFields (bytes ∷ []) (at_place 0 0) e → new ≡ option_map (λ pages. written pages a.page (a.at + 28) part) old → Told (SetsEntryFields a e) old new
 fields_written old new count a bytes part e whole fit is-part size is now =
@@ -129,6 +132,7 @@ entry_of_parts mid last e links fields same = record {
   };
 }
 
+-- the links of an entry, put into bytes one after another, all stand there
 pub links_put : (p0 p1 p2 p3 p4 p5 : List ℕ) (e : Entry)
     → SetsAddress 0 0 (address_of e.previous) (p0 ∷ []) (p1 ∷ []) → SetsAddress 0 6 (address_of e.next) (p1 ∷ []) (p2 ∷ []) → SetsField 0 12 4 e.versions.length (p2 ∷ []) (p3 ∷ [])
     → SetsAddress 0 16 (address_of e.versions.first) (p3 ∷ []) (p4 ∷ []) → SetsAddress 0 22 (address_of e.versions.last) (p4 ∷ []) (p5 ∷ []) → HasEntryLinks (p5 ∷ []) (at_place 0 0) e
@@ -140,6 +144,7 @@ links_put p0 p1 p2 p3 p4 p5 e s1 s2 s3 s4 s5 =
     let r1 = then_address 0 (address_of e.previous) (p0 ∷ []) (p1 ∷ []) (p5 ∷ []) s1 r2.1 in
     record { previous = r1.0; next = r2.0; count = r3.0; first = r4.0; last = r5.0 }
 
+-- so do its fields, and what is before them stays
 pub fields_put : (p0 p1 p2 p3 p4 p5 p6 p7 : List ℕ) (e : Entry)
     → SetsField 0 28 6 e.creator.0 (p0 ∷ []) (p1 ∷ []) → SetsField 0 34 6 e.modifier.0 (p1 ∷ []) (p2 ∷ []) → SetsField 0 40 4 e.creator_undo.0 (p2 ∷ []) (p3 ∷ [])
     → SetsField 0 44 4 e.modifier_undo.0 (p3 ∷ []) (p4 ∷ []) → SetsField 0 48 4 e.page.0 (p4 ∷ []) (p5 ∷ []) → SetsField 0 52 4 e.length (p5 ∷ []) (p6 ∷ []) → SetsField 0 56 4 e.version.0 (p6 ∷ []) (p7 ∷ [])
@@ -154,6 +159,7 @@ fields_put p0 p1 p2 p3 p4 p5 p6 p7 e s1 s2 s3 s4 s5 s6 s7 =
     let r1 = then_number 28 6 e.creator.0 (p0 ∷ []) (p1 ∷ []) (p7 ∷ []) s1 r2.1 in
     (record { creator = r1.0; modifier = r2.0; creator_undo = r3.0; modifier_undo = r4.0; page = r5.0; long = r6.0; number = r7.0 }, r1.1)
 
+-- fields in 64 bytes that were read of a LOB's first page are those of the page
 pub first_read : (told : Option Pages) (page : ℕ) (bytes : List ℕ) (f : FirstFields) → IsFirstAt (bytes ∷ []) 0 f
     → IfSome told (λ pages. bytes ≡ bytes_at pages page 0 64) → IfSome told (λ pages. IsFirstAt pages page f)
 first_read told page bytes f is = if_told told _ _ (λ pages same. first_agrees pages page bytes f (in_read pages page 0 64 bytes same) is)

@@ -10,6 +10,7 @@ use Rattle.lob_model.specs.Lobs.{IsLob, data_pages, lob_pages}
 use Rattle.lob_model.proofs.VersionLemmas.{version_changed}
 use Rattle.lob_pages.specs.First.{HasVersion}
 
+-- a version that no piece's is above, set in the first page, is the LOB's and changes no other
 pub version_set : (old new : Pages) (lob : Lob) (v : ℕ) → IsLob old lob → AreFalling (v + 1) lob.pieces → SetsField lob.page 40 4 v old new → HasVersion v lob old new
 version_set old new lob v is falling sets =
     let changed = version_changed old new lob v is falling sets in record {

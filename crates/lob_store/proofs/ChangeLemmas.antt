@@ -81,6 +81,7 @@ small_so new h = grind (arith, h)
 large_so : (new : List ℕ) → 16777216 < length new → is_too_large new ≡ true
 large_so new h = grind (arith, h)
 
+-- where the plan changes nothing, the change is answered as `same`
 pub same_reply : (c : bytes.Change) (t : Tree) (nested size : ℕ) → IsPlanFor c nested size planned.Same → changed_reply t c ≡ same
 same_reply bytes.Same t nested size h = refl
 same_reply (bytes.Parts rs) t nested size h = absurd h
@@ -90,16 +91,19 @@ same_reply (bytes.Full new) t nested size h = absurd h
 abbrev pub PartsOf : bytes.Change → List ℕ → Tree → Parts → Type 0
 PartsOf c old t parts = (changed_reply t c ≡ part (differing (runs_of parts))) × (stored old c ≡ put_all (runs_of parts) old)
 
+-- where the plan is patches, they have the change's answer and leave what it stores
 pub parts_reply : (c : bytes.Change) (old : List ℕ) (t : Tree) (size : ℕ) (parts : Parts) → IsPlanFor c (depth t) size (planned.Parts parts) → PartsOf c old t parts
 parts_reply bytes.Same old t size parts h = absurd h
 parts_reply (bytes.Parts rs) old t size parts h = (rw (shallow_so t h.0) (ap (λ qs. part (differing qs)) (sym h.1)), ap (λ qs. put_all qs old) (sym h.1))
 parts_reply (bytes.Full new) old t size parts h = absurd h
 
+-- planned patches differ at no more places than the old document has bytes
 pub few_planned : (old : List ℕ) (t : Tree) (e : Edit) (c : bytes.Change) (nested size : ℕ) (parts : Parts) → bytes.change old t e ≡ c → IsPlanFor c nested size (planned.Parts parts) → differing (runs_of parts) ≤ length old
 few_planned old t e bytes.Same nested size parts is h = absurd h
 few_planned old t e (bytes.Parts rs) nested size parts is h = subst (λ qs. differing qs ≤ length old) (sym h.1) (few_parts old t e rs is)
 few_planned old t e (bytes.Full new) nested size parts is h = absurd h
 
+-- where the plan is an encoding within the limit, the change is answered as `full` and stores it
 pub full_reply : (c : bytes.Change) (old : List ℕ) (t : Tree) (size : ℕ) (out : _) → IsPlanFor c (depth t) size (planned.Full out) → length out.items ≤ 16777216 → (changed_reply t c ≡ full) × (stored old c ≡ out.items)
 full_reply bytes.Same old t size out h small = absurd h
 full_reply (bytes.Parts rs) old t size out h small = absurd h
@@ -107,11 +111,13 @@ full_reply (bytes.Full new) old t size out h small =
     let fits : is_too_large new ≡ false = small_so new (subst (λ xs. length xs ≤ 16777216) h.2 small) in
     (rw (shallow_so t h.0, fits) refl, sym h.2)
 
+-- where the plan is refused as too deep, the change is answered as `deep`
 pub deep_reply : (c : bytes.Change) (t : Tree) (size : ℕ) → IsPlanRefused c (depth t) size Deep → changed_reply t c ≡ deep
 deep_reply bytes.Same t size h = absurd h.0
 deep_reply (bytes.Parts rs) t size h = rw (deep_so t h.1) refl
 deep_reply (bytes.Full new) t size h = rw (deep_so t h.1) refl
 
+-- where the plan is refused as too large, the change is answered as `large`
 pub large_reply : (old : List ℕ) (t : Tree) (e : Edit) (c : bytes.Change) → bytes.change old t e ≡ c → IsPlanRefused c (depth (edited e t)) (canonical_length (edited e t)) Large → changed_reply (edited e t) c ≡ large
 large_reply old t e bytes.Same is h = absurd h.0
 large_reply old t e (bytes.Parts rs) is h = absurd h.0

@@ -28,6 +28,7 @@ as_many (st ∷ sts) = ap suc (as_many sts)
 abbrev IsWhole : Mode → List ℕ → List Statement → Type 0
 IsWhole mode bytes sts = (script_by alone mode bytes ≡ Ok (lines_of sts)) × (length sts ≤ 100_000) × AreByItself sts
 
+-- a script read for one session is its statements as lines, at most 100,000 and each by itself
 pub loaded : (mode : Mode) (bytes : List ℕ) (script : Script) (sts : List Statement) → IsReadAs script (script_by alone mode bytes)
     → ((model : journal.Script) → IsScript script model → map statement_of sts ≡ journal.statements 1 model) → IsWhole mode bytes sts
 loaded mode bytes script sts read all = on (script_by alone mode bytes) refl read

@@ -16,6 +16,7 @@ use Rattle.mini_trx.proofs.DistinctLemmas.{different_push, among_push, among_get
 
 -- ---- writes in order
 
+-- with a write more, it is made in what the others leave
 pub all_written_push : (ws : List Write) (w : Write) (pages : Pages) → all_written (ws ++ w ∷ []) pages ≡ written (all_written ws pages) w.page w.at w.bytes
 all_written_push [] w pages = refl
 all_written_push (v ∷ ws) w pages = all_written_push ws w (written pages v.page v.at v.bytes)
@@ -42,6 +43,7 @@ coherent_none c none = record {
 
 -- ---- the cache goes on
 
+-- copies stay coherent over a cache that keeps its pages and lends no more of them
 pub coherent_kept : (c d : CacheState) (copies : List PageCopy) (ws : List Write) → IsCoherent c copies ws → KeepsPages c d → d.lent ≤ c.lent → IsCoherent d copies ws
 coherent_kept c d copies ws is keeps fewer = record {
   frames = omega (arith, is.frames, fewer);
@@ -57,6 +59,7 @@ coherent_kept c d copies ws is keeps fewer = record {
 copied : (told : Option Pages) (pages : Pages) (frame : List ℕ) (page : ℕ) → told ≡ Some pages → IfSome told (λ own. frame ≡ page_at own page) → frame ≡ page_at pages page
 copied told pages frame page is copy = let P : Option Pages → Type 0 = λ o. IfSome o (λ own. frame ≡ page_at own page) in subst P is copy
 
+-- they stay coherent with a copy more, of a held page without one, where one more is lent at most
 pub coherent_pinned : (c d : CacheState) (copies : List PageCopy) (ws : List Write) (page : ℕ) (frame : List ℕ) → IsCoherent c copies ws → KeepsPages c d → d.lent ≤ c.lent + 1
     → among (map page_of copies) page ≡ false → IsTrue (d.holds page) → IfSome c.told (λ pages. frame ≡ page_at pages page) → IsCoherent d (copies ++ page_copy page frame ∷ []) ws
 coherent_pinned c d copies ws page frame is keeps lent new held copy =

@@ -8,6 +8,7 @@ or_true : (x : Bool) → (x || true) ≡ true
 or_true true = refl
 or_true false = refl
 
+-- the number at each place of a list is among the list
 pub among_get : (xs : List ℕ) (k d : ℕ) → k < length xs → among xs (get_or xs k d) ≡ true
 among_get [] k d below = absurd (omega arith)
 among_get (x ∷ xs) zero d below = rw (eq-eqb x x refl) refl
@@ -58,6 +59,7 @@ different_push (x ∷ xs) y new = elim (cases_eq y x) [
     or_false true = refl
     or_false false = refl
 
+-- what is among a list is so with a number more
 pub among_push : (xs : List ℕ) (y n : ℕ) → among xs n ≡ true → among (xs ++ y ∷ []) n ≡ true
 among_push xs y n is = among-append xs (y ∷ []) n ∙ rw is refl
 

@@ -3,7 +3,7 @@ use Rattle.std.proofs.Common.{◌≡◌, ℕ, ◌+◌, ◌^◌, ◌<◌, ◌≤�
 use Rattle.std.proofs.lemmas.List.Elements.{All-push, All-weaker, All-nil}
 use Rattle.byteorder.specs.Endian.{big_number}
 use Rattle.page_model.specs.Pages.{Write, page_bytes}
-use Rattle.page_model.specs.Frames.{frame_bytes, writes_in, greatest_group, write, IsInside, IsFrame, HoldsFrame}
+use Rattle.page_model.specs.Frames.{frame_bytes, writes_in, max_group, write, IsInside, IsFrame, HoldsFrame}
 use Rattle.mini_trx.specs.Groups.{KeepsFrame}
 use Rattle.page_model.proofs.GroupFrameLemmas.{all_small, frame_read, count_read}
 
@@ -12,7 +12,7 @@ pub record Keeps (ws : List Write) (items : List ℕ) : Type 0 where
   pub group : KeepsFrame items
   pub writes : writes_in items ≡ ws
 
-pub keeps : (ws : List Write) (items : List ℕ) → items ≡ frame_bytes ws → length items ≤ greatest_group → All (IsInside (2 ^ 32)) ws → Keeps ws items
+pub keeps : (ws : List Write) (items : List ℕ) → items ≡ frame_bytes ws → length items ≤ max_group → All (IsInside (2 ^ 32)) ws → Keeps ws items
 keeps ws items is short inside =
     let read : writes_in items ≡ ws = ap writes_in is ∙ frame_read ws (all_small ws inside) (let l = ap length is in omega (arith, l, short)) in
     record {
@@ -32,7 +32,7 @@ keeps_none items is = keeps [] items is (let l = ap length is in omega (arith, l
 -- one write more, where there is room for it
 pub keeps_more : (old new : List ℕ) (ws : List Write) (old_len new_len page at : ℕ) (bytes : List ℕ) → KeepsFrame old → writes_in old ≡ ws
     → ((vs : List Write) → old ≡ frame_bytes vs → new ≡ frame_bytes (vs ++ write page at bytes ∷ []))
-    → old_len ≡ length old → new_len ≡ length new → new_len ≡ old_len + (8 + length bytes) → length (frame_bytes ws) + (length bytes + 8) ≤ greatest_group
+    → old_len ≡ length old → new_len ≡ length new → new_len ≡ old_len + (8 + length bytes) → length (frame_bytes ws) + (length bytes + 8) ≤ max_group
     → page < 2 ^ 32 → at + length bytes ≤ page_bytes → Keeps (ws ++ write page at bytes ∷ []) new
 keeps_more old new ws old_len new_len page at bytes kept are appends is_old is_new grows room few within =
     let frame : old ≡ frame_bytes ws = kept.frame ∙ ap frame_bytes are in

@@ -6,7 +6,7 @@ use Rattle.std.proofs.lemmas.List.Elements.{All-weaker, All-tail}
 use Rattle.std.proofs.lemmas.Bool.{cases_Bool, or_cases, eqb-true}
 use Rattle.std.proofs.Math.Seq.{map-set_same}
 use Rattle.page_model.specs.Pages.{Pages, page_at, bytes_at, patched, written, Write, all_written}
-use Rattle.page_model.specs.Steps.{PageState, MayUse, among, different, IsWithin, Touches, most_pins, whole_room}
+use Rattle.page_model.specs.Steps.{PageState, MayUse, among, different, IsWithin, Touches, max_pins, whole_room}
 use Rattle.page_model.proofs.StepLemmas.{within_both, within_right, within_one}
 use Rattle.mini_trx.specs.Copies.{PageCopy, page_copy, page_of}
 use Rattle.mini_trx.specs.Pins.{IsPlace}
@@ -39,7 +39,7 @@ pins_one page c d copies new frame is keeps lent other held copy =
     })
 
 -- a page may be pinned where it is or another is left
-pub may_pin : (page : ℕ) (pages : List ℕ) → different (page ∷ pages) + 0 ≤ most_pins → different pages ≡ length pages → (among pages page ≡ true) ⊎ (length pages < most_pins)
+pub may_pin : (page : ℕ) (pages : List ℕ) → different (page ∷ pages) + 0 ≤ max_pins → different pages ≡ length pages → (among pages page ≡ true) ⊎ (length pages < max_pins)
 may_pin page pages few apart = elim (cases_Bool (among pages page)) [
   | inl is ↦ inl is
   | inr not ↦ inr (let e = rw not at few in omega (arith, e, apart))
@@ -55,6 +55,7 @@ read_copy (Some pages) ws copies i page at n into bytes place is =
 
 -- ---- writing
 
+-- with a write more, what is told is what was told with that write made
 pub told_written : (old new : Option Pages) (ws vs : List Write) (page at : ℕ) (bytes : List ℕ) → new ≡ old → vs ≡ ws ++ write page at bytes ∷ []
     → option_map (all_written vs) new ≡ option_map (λ pages. written pages page at bytes) (option_map (all_written ws) old)
 told_written old new ws vs page at bytes same more =
@@ -64,6 +65,7 @@ told_written old new ws vs page at bytes same more =
     pushed None = refl
     pushed (Some pages) = ap Some (all_written_push ws (write page at bytes) pages)
 
+-- with a write more, a frame is longer by the write's bytes and 8
 pub length-frame_push : (ws : List Write) (w : Write) → length (frame_bytes (ws ++ w ∷ [])) ≡ length (frame_bytes ws) + (8 + length w.bytes)
 length-frame_push ws w =
     let l = ap length (writes_more ws w) ∙ length-append (writes_bytes ws) (write_bytes w) in
@@ -79,11 +81,13 @@ pages_patched copies new i at bytes is =
     let copy = get_or copies i (page_copy 0 []) in
     ap (map page_of) is ∙ map-set_same page_of copies i (page_copy copy.page (patched copy.bytes at bytes)) (page_copy 0 []) refl
 
+-- a call that pinned this page, and else only pages pinned before, touched it alone
 pub touches_pinned : (page : ℕ) (old new : List ℕ) → IsWithin new (page ∷ old) → Touches (page ∷ []) 0 old new
 touches_pinned page old new within = record { others = []; few = omega arith; within = within }
 
 -- ---- the end
 
+-- the cache holds each page that is written
 pub held_writes : (c : CacheState) (copies : List PageCopy) (ws : List Write) → IsCoherent c copies ws → All (λ w. IsTrue (c.holds w.page)) ws
 held_writes c copies ws is =
     All-weaker (λ (w : Write). among (map page_of copies) w.page ≡ true) (λ (w : Write). IsTrue (c.holds w.page)) (λ w there. held_page copies w.page is.held there) ws is.pinned
@@ -97,6 +101,7 @@ held_writes c copies ws is =
 
 -- ---- the beginning
 
+-- with no copies and no writes over the cache as it was, a mini-transaction begins
 pub begins : (c d : CacheState) (copies : List PageCopy) (ws : List Write) → d.told ≡ c.told → d.count ≡ c.count → d.faults ≡ c.faults → copies ≡ [] → ws ≡ [] → Begins c (mtr_state d copies ws)
 begins c d copies ws told count faults none nothing =
     let P : List Write → Type 0 = λ vs. option_map (all_written vs) d.told ≡ c.told in
@@ -115,7 +120,7 @@ begins c d copies ws told count faults none nothing =
     as_it_is (Some pages) = refl
 
 -- what a first call may use
-pub may_begin : (c : CacheState) (s : PageState) (named : List ℕ) (others bytes : ℕ) → Begins c s → different named + others ≤ most_pins → bytes ≤ whole_room → MayUse named others bytes s
+pub may_begin : (c : CacheState) (s : PageState) (named : List ℕ) (others bytes : ℕ) → Begins c s → different named + others ≤ max_pins → bytes ≤ whole_room → MayUse named others bytes s
 may_begin c s named others bytes begun few short =
     let e : different (named ++ s.touched) ≡ different named = ap (λ (ns : List ℕ). different (named ++ ns)) begun.touched ∙ ap different (append-nil named) in
     record { pins = omega (arith, e, few); room = omega (arith, begun.room, short) }

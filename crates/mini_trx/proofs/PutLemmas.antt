@@ -15,6 +15,7 @@ pub record Put (rest : List Write) (pages total : Pages) : Type 0 where
   pub below : All (λ w. w.page < length pages) rest
   pub sizes : HasSizes pages
 
+-- with the first write made in its page, the others are left, to the same end
 pub put_write : (writes rest : List Write) (w : Write) (pages total : Pages) (old new : List ℕ) → Put writes pages total → writes ≡ w ∷ rest → All (IsInside (2 ^ 32)) writes
     → old ≡ get_or pages w.page old → new ≡ patched old w.at w.bytes → Put rest (slice_set pages w.page new) total
 unfolding written

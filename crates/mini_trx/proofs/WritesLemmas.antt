@@ -14,9 +14,11 @@ pub record Step (n : ℕ) (bytes after : List ℕ) : Type 0 where
   pub whole : after ≡ writes_bytes (writes_from (n - 1) after)
   pub inside : All (IsInside (2 ^ 32)) (writes_from (n - 1) after)
 
+-- the bytes behind the first write
 abbrev pub behind : List ℕ → List ℕ
 behind bytes = drop (8 + big_number 2 (drop 6 bytes)) bytes
 
+-- bytes that are their writes begin with the first, and those behind are the others' bytes
 pub next_write : (n : ℕ) (bytes : List ℕ) → 0 < n → bytes ≡ writes_bytes (writes_from n bytes) → All (IsInside (2 ^ 32)) (writes_from n bytes) → Step n bytes (behind bytes)
 next_write n bytes some whole inside =
     let w = write_at_head bytes in
@@ -33,6 +35,7 @@ next_write n bytes some whole inside =
 pub next_after : (n : ℕ) (bytes after : List ℕ) → after ≡ behind bytes → Step n bytes (behind bytes) → Step n bytes after
 next_after n bytes after is step = subst (Step n bytes) (sym is) step
 
+-- what stands behind a frame's first six bytes is the bytes of its writes, as many as it tells
 pub frame_body : (frame : List ℕ) (n : ℕ) (body : List ℕ) → KeepsFrame frame → n ≡ big_number 2 (drop 4 frame) → body ≡ drop 6 frame
     → (writes_from n body ≡ writes_in frame) × (body ≡ writes_bytes (writes_from n body)) × All (IsInside (2 ^ 32)) (writes_from n body)
 frame_body frame n body kept count is =

@@ -1,7 +1,7 @@
 -- A cache that keeps all its pages, as the definitions see it.
 use Rattle.std.specs.Prelude.{◌≡◌, ◌-◌, nat_lt, false, length, Some, is_none, vec_len}
 use Rattle.page_model.specs.Pages.{Pages}
-use Rattle.page_model.specs.Steps.{most_pins}
+use Rattle.page_model.specs.Steps.{max_pins}
 use Rattle.mini_trx.specs.Caches.{CacheState}
 use Rattle.mini_trx.specs.declared.resident.Resident.{Resident}
 
@@ -13,7 +13,7 @@ abbrev pub cache_state : Resident → CacheState
 cache_state r = record {
   told = Some (resident_pages r);
   count = length (resident_pages r);
-  lent = most_pins - vec_len r.spare;
+  lent = max_pins - vec_len r.spare;
   out = is_none r.buffer;
   holds = λ n. nat_lt n (length (resident_pages r));
   faults = 0;

@@ -2,7 +2,7 @@
 ghost use Rattle.std.specs.Prelude.{◌≡◌, ◌+◌, ◌≤◌, ◌<◌, ◌++◌, ◌^◌, ℕ, [], ◌∷◌, List, length, drop, vec_len, vec_capacity, slice_index_or, IsTrue, IfSome, IfNone, ◌↔◌};
 ghost use Rattle.byteorder.specs.Endian.{big_number};
 ghost use Rattle.page_model.specs.Pages.{Write};
-ghost use Rattle.page_model.specs.Frames.{header_bytes, head_bytes, frame_bytes, write, greatest_group, writes_in, BeginsWith, HasHeader, HasWrites, HoldsFrame};
+ghost use Rattle.page_model.specs.Frames.{header_bytes, head_bytes, frame_bytes, write, max_group, writes_in, BeginsWith, HasHeader, HasWrites, HoldsFrame};
 ghost use Rattle.mini_trx.specs.Groups.{KeepsFrame};
 ghost use Rattle.mini_trx.specs.PageWrites.{write_of};
 
@@ -10,7 +10,8 @@ use crate::PageWrite;
 use byteorder::{BigEndian, ByteOrder};
 use engine_base::{MAX_GROUP, PAGE_BYTES, PageNo};
 
-/// The length of a frame without writes, in front of which stand its whole length and the number of its writes.
+/// The length of a frame without writes, in front of which stand its whole length and the number of
+/// its writes.
 pub(crate) const HEADER: usize = 6;
 
 /// The length of what stands in front of a write's bytes: page, offset and length.
@@ -29,8 +30,8 @@ pub(crate) fn begin(buffer: &mut Vec<u8>)
 /// Appends one write to the frame in the buffer: the one copy of its bytes there. Takes no memory.
 pub(crate) fn append(buffer: &mut Vec<u8>, page: PageNo, at: u16, bytes: &[u8])
     requires frame { (ws : List Write) × (buffer.old.items ≡ frame_bytes ws) }
-    requires short { vec_len buffer.old + (8 + length bytes.now) ≤ greatest_group }
-    requires room { greatest_group ≤ vec_capacity buffer.old }
+    requires short { vec_len buffer.old + (8 + length bytes.now) ≤ max_group }
+    requires room { max_group ≤ vec_capacity buffer.old }
     requires len { length bytes.now < 65_536 }
     ensures appends { (ws : List Write) → buffer.old.items ≡ frame_bytes ws
         → buffer.new.items ≡ frame_bytes (ws ++ write page.0 at bytes.now ∷ []) }
@@ -75,7 +76,7 @@ fn head(page: PageNo, at: u16, len: u16) -> [u8; 8]
 
 // Writes the frame's length and its number of writes.
 fn seal(frame: &mut [u8], count: u16)
-    requires { (6 ≤ length frame.old) × (length frame.old ≤ greatest_group) }
+    requires { (6 ≤ length frame.old) × (length frame.old ≤ max_group) }
     ensures { frame.new ≡ header_bytes (length frame.old) count ++ drop 6 frame.old }
 {
     let len = frame.len() as u32;
@@ -130,7 +131,8 @@ fn has_writes(bytes: &[u8], count: u16, pages: u32) -> bool
 // The bytes behind a whole write within the pages, where they begin with one.
 fn behind_write(bytes: &[u8], pages: u32) -> Option<&[u8]>
     ensures found { IfSome result (λ after. (w : Write) × BeginsWith pages w after.now bytes.now) }
-    ensures none { IfNone result ((w : Write) (after : List ℕ) → ¬ BeginsWith pages w after bytes.now) }
+    ensures none { IfNone result ((w : Write) (after : List ℕ)
+        → ¬ BeginsWith pages w after bytes.now) }
 {
     if bytes.len() < WRITE_HEAD {
         return None;

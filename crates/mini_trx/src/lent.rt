@@ -1,7 +1,7 @@
 // The pages that a mini-transaction has pinned.
 ghost use Rattle.std.specs.Prelude.{◌≡◌, ◌+◌, ◌≤◌, ◌<◌, ◌++◌, [], ◌∷◌, length, map, false, All, IsSome, IfSome, IfNone, slice_index_or, slice_set, MatchOption};
 ghost use Rattle.page_model.specs.Pages.{page_bytes, patched};
-ghost use Rattle.page_model.specs.Steps.{most_pins, among};
+ghost use Rattle.page_model.specs.Steps.{max_pins, among};
 ghost use Rattle.mini_trx.specs.Pins.{IsPlace};
 ghost use Rattle.mini_trx.specs.Copies.{copy_of, page_copy, page_of};
 
@@ -44,7 +44,7 @@ impl LentPages {
 
     pub(crate) fn len(&self) -> usize
         ensures value { result ≡ length self.now }
-        ensures most { result ≤ most_pins }
+        ensures most { result ≤ max_pins }
     {
         self.places.len()
     }
@@ -74,13 +74,14 @@ impl LentPages {
         requires place { i < length self.old }
         requires within { at + length bytes.now ≤ page_bytes }
         ensures { let copy = slice_index_or self.old i (page_copy 0 []) in
-            self.new ≡ slice_set self.old i (page_copy copy.page (patched copy.bytes at bytes.now)) }
+            self.new ≡ slice_set self.old i
+            (page_copy copy.page (patched copy.bytes at bytes.now)) }
     {
         patch(self.places.as_mut_slice(), i, at, bytes);
     }
 
     pub(crate) fn push(&mut self, page: PageNo, frame: PageBuf)
-        requires { length self.old < most_pins }
+        requires { length self.old < max_pins }
         ensures { self.new ≡ self.old ++ page_copy page.0 frame ∷ [] }
     {
         self.places.push(Some(Lent { page, frame }));
@@ -123,7 +124,8 @@ fn patch(places: &mut [Option<Lent>], i: usize, at: usize, bytes: &[u8])
     requires within { at + length bytes.now ≤ page_bytes }
     ensures all { All IsSome places.new }
     ensures patched { let copy = slice_index_or (map copy_of places.old) i (page_copy 0 []) in
-        map copy_of places.new ≡ slice_set (map copy_of places.old) i (page_copy copy.page (patched copy.bytes at bytes.now)) }
+        map copy_of places.new ≡ slice_set (map copy_of places.old) i
+        (page_copy copy.page (patched copy.bytes at bytes.now)) }
 {
     if let Some(lent) = &mut places[i] {
         lent.frame.patch(at, bytes);

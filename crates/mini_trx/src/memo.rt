@@ -3,7 +3,7 @@ ghost use Rattle.std.specs.Prelude.{◌≡◌, ◌+◌, ◌≤◌, ◌<◌, ◌+
 ghost use Rattle.page_model.specs.Pages.{Write, page_bytes, patched};
 ghost use Rattle.page_model.specs.Steps.{write_head};
 ghost use Rattle.mini_trx.specs.Copies.{PageCopy, page_copy};
-ghost use Rattle.page_model.specs.Frames.{frame_bytes, greatest_group, write};
+ghost use Rattle.page_model.specs.Frames.{frame_bytes, max_group, write};
 
 use crate::Group;
 use crate::lent::LentPages;
@@ -19,12 +19,13 @@ pub trait Holdings {
 
     /// Takes one of the frames out.
     fn take_frame(&mut self) -> Option<PageBuf>
-        ensures frames { MatchOption result (copies self.old ≡ []) (λ _. length (copies self.new) + 1 ≡ length (copies self.old)) }
+        ensures frames { MatchOption result (copies self.old ≡ [])
+            (λ _. length (copies self.new) + 1 ≡ length (copies self.old)) }
         ensures writes { writes self.new ≡ writes self.old };
 
     fn into_group(self) -> Group
         ensures writes { result.writes ≡ writes self }
-        ensures capacity { greatest_group ≤ result.capacity };
+        ensures capacity { max_group ≤ result.capacity };
 }
 
 /// The pages that a mini-transaction has pinned, and its writes, in the order of writing.
@@ -32,13 +33,13 @@ pub trait Holdings {
 pub struct Memo {
     pub(crate) lent: LentPages,
     pub(crate) group: Group,
-    ghost room: { greatest_group ≤ group.capacity },
+    ghost room: { max_group ≤ group.capacity },
 }
 
 impl Memo {
     /// No page is pinned, and nothing written. Takes no memory.
     pub(crate) fn new(buffer: Vec<u8>) -> Memo
-        requires { greatest_group ≤ vec_capacity buffer }
+        requires { max_group ≤ vec_capacity buffer }
         ensures lent { result.lent ≡ [] }
         ensures writes { result.group.writes ≡ [] }
     {
@@ -48,14 +49,18 @@ impl Memo {
         }
     }
 
-    /// Writes over a part of copy i, which is of this page: one copy of the bytes into the frame, and one into the group.
+    /// Writes over a part of copy i, which is of this page: one copy of the bytes into the frame,
+    /// and one into the group.
     pub(crate) fn write(&mut self, i: usize, page: PageNo, at: u16, bytes: &[u8])
         requires place { i < length self.old.lent }
         requires within { at + length bytes.now ≤ page_bytes }
-        requires room { length (frame_bytes self.old.group.writes) + (length bytes.now + write_head) ≤ greatest_group }
+        requires room { length (frame_bytes self.old.group.writes) + (length bytes.now + write_head)
+            ≤ max_group }
         ensures copies { let copy = slice_index_or self.old.lent i (page_copy 0 []) in
-            self.new.lent ≡ slice_set self.old.lent i (page_copy copy.page (patched copy.bytes at bytes.now)) }
-        ensures writes { self.new.group.writes ≡ self.old.group.writes ++ write page.0 at bytes.now ∷ [] }
+            self.new.lent ≡ slice_set self.old.lent i
+            (page_copy copy.page (patched copy.bytes at bytes.now)) }
+        ensures writes { self.new.group.writes
+            ≡ self.old.group.writes ++ write page.0 at bytes.now ∷ [] }
     {
         self.lent.patch(i, usize::from(at), bytes);
         self.group.append(page, at, bytes);

@@ -2,8 +2,8 @@
 ghost use Rattle.std.specs.Prelude.{◌≡◌, ◌≤◌, ◌<◌, ◌^◌, length, All, replicate, IsTrue, IfOk, vec_len, vec_capacity};
 ghost use Rattle.std.specs.Option.{ForSome};
 ghost use Rattle.page_model.specs.Pages.{page_bytes, all_written};
-ghost use Rattle.page_model.specs.Steps.{most_pins};
-ghost use Rattle.page_model.specs.Frames.{greatest_group};
+ghost use Rattle.page_model.specs.Steps.{max_pins};
+ghost use Rattle.page_model.specs.Frames.{max_group};
 ghost use Rattle.mini_trx.specs.Caches.{Begins};
 
 use crate::{Cache, Group, Mtr};
@@ -18,9 +18,9 @@ pub struct Resident {
     buffer: Option<Vec<u8>>,
     ghost few: { length pages.items < 2 ^ 32 },
     ghost sizes: { All (λ page. length page ≡ page_bytes) pages.items },
-    ghost spares: { vec_len spare ≤ most_pins },
-    ghost frames: { most_pins ≤ vec_capacity spare },
-    ghost room: { ForSome buffer (λ bytes. greatest_group ≤ vec_capacity bytes) },
+    ghost spares: { vec_len spare ≤ max_pins },
+    ghost frames: { max_pins ≤ vec_capacity spare },
+    ghost room: { ForSome buffer (λ bytes. max_group ≤ vec_capacity bytes) },
 }
 
 impl Resident {
@@ -28,7 +28,8 @@ impl Resident {
 
     /// As many pages of zeros, 16 frames, and the buffer: all the memory that it ever takes.
     pub fn new(alloc: Global, pages: u32) -> Result<Resident, AllocError>
-        ensures pages { IfOk result (λ r. resident_pages r ≡ replicate pages (replicate page_bytes 0)) }
+        ensures pages { IfOk result (λ r.
+            resident_pages r ≡ replicate pages (replicate page_bytes 0)) }
         ensures idle { IfOk result IsIdle }
     {
         Ok(Resident {
@@ -44,18 +45,21 @@ impl Resident {
         ensures same_reference { result.cache.ghost_name ≡ self.entry.ghost_name }
         ensures pages { resident_pages result.cache.now ≡ resident_pages self.old }
         ensures out { IsTrue (cache_state result.cache.now).out }
-        ensures begins { Begins (cache_state self.old) (⟦<Mtr<'static, Resident> as Pages>⟧.state result) }
+        ensures begins { Begins (cache_state self.old)
+            (⟦<Mtr<'static, Resident> as Pages>⟧.state result) }
     {
         let buffer = self.buffer.take().unwrap();
         Mtr::new(self, buffer)
     }
 
-    /// Makes the group's writes in the pages, in their order, and takes its buffer back: the one copy of their bytes here. Takes no memory.
+    /// Makes the group's writes in the pages, in their order, and takes its buffer back: the one
+    /// copy of their bytes here. Takes no memory.
     pub fn put(&mut self, group: Group)
         requires none_lent { (cache_state self.old).lent ≡ 0 }
         requires pages { All (λ w. w.page < length (resident_pages self.old)) group.writes }
-        requires room { greatest_group ≤ group.capacity }
-        ensures pages { resident_pages self.new ≡ all_written group.writes (resident_pages self.old) }
+        requires room { max_group ≤ group.capacity }
+        ensures pages { resident_pages self.new
+            ≡ all_written group.writes (resident_pages self.old) }
         ensures count { length (resident_pages self.new) ≡ length (resident_pages self.old) }
         ensures idle { IsIdle self.new }
     {
@@ -82,7 +86,9 @@ impl Cache for Resident {
 
     ghost stays_on = { λ _ _ _ first then. then ∙ first };
 
-    ghost stays_pages = { λ a b same. keeps_resident (cache_state a) (cache_state b) (resident_pages a) (resident_pages b) same refl refl refl refl refl refl };
+    ghost stays_pages = { λ a b same.
+        keeps_resident (cache_state a) (cache_state b) (resident_pages a) (resident_pages b) same
+        refl refl refl refl refl refl };
 
     fn count(&self) -> u32 {
         self.pages.len() as u32

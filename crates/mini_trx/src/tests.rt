@@ -1,6 +1,6 @@
 ghost use Rattle.std.specs.Prelude.{◌≡◌, ◌<◌, ◌≤◌, [], ◌∷◌, length, All};
 ghost use Rattle.page_model.specs.Steps.{MayUse, Uses};
-ghost use Rattle.page_model.specs.Frames.{greatest_group};
+ghost use Rattle.page_model.specs.Frames.{max_group};
 ghost use Rattle.mini_trx.specs.Residents.{resident_pages, cache_state, IsIdle};
 
 use crate::{Group, Resident};
@@ -33,7 +33,7 @@ fn committed(rt: &impl Abort, cache: &mut Resident) -> Group
     ensures pages { resident_pages cache.new ≡ resident_pages cache.old }
     ensures none_lent { (cache_state cache.new).lent ≡ 0 }
     ensures below { All (λ w. w.page < 4) result.writes }
-    ensures capacity { greatest_group ≤ result.capacity }
+    ensures capacity { max_group ≤ result.capacity }
 {
     let mut mtr = cache.begin();
     let wrote = two_writes(&mut mtr).is_ok();

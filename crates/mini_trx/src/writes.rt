@@ -5,7 +5,8 @@ ghost use Rattle.mini_trx.specs.Groups.{KeepsFrame};
 use crate::PageWrite;
 use crate::frame::{HEADER, count_of, first_write};
 
-/// The writes of a group in the order of writing, each where the group's frame has it. It copies nothing.
+/// The writes of a group in the order of writing, each where the group's frame has it. It copies
+/// nothing.
 #[derive(Clone, Copy, Debug)]
 pub struct Writes<'a> {
     rest: &'a [u8],

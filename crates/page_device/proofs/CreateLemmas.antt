@@ -49,6 +49,7 @@ new_made l a b c written zeros none =
     no_bytes [] none = refl
     no_bytes (x ∷ a) none = absurd (omega arith)
 
+-- the control head written, and zeros appended up to the whole length, create the file
 pub created : (l : Layout) (head : List ℕ) (at to : ℕ) → head ≡ control_head l → at ≡ 20 → to ≡ wanted l → {T E : Type 0} (r : Result T E) (o p q x : Option (List ℕ)) → Told (Written 0 head) o p → Told (AppendsZeros at to) p q → x ≡ q → OnOk r (Told (Creates l) o x)
 created l head at to is low high (Err e) o p q x one two same = tt
 created l head at to is low high (Ok u) o p q x one two same =

@@ -9,9 +9,11 @@ use Rattle.file_model.proofs.PartLemmas.{torn_elsewhere, held_each, held_whole}
 use Rattle.engine_base.proofs.CrashLemmas.{told_map}
 use Rattle.page_device.specs.Device.{SetsLive, MaySetLive, SetsPage, MaySetPage}
 
+-- a write of the live byte that may be cut short changes that byte alone
 pub live_torn : (a b : List ℕ) → Torn live_place 1 a b → MaySetLive a b
 live_torn a b torn = torn_elsewhere live_place 1 a b torn
 
+-- the live byte written as a region's number makes this region the live one
 pub live_set : (region : ℕ) → region ≤ 1 → (a b : List ℕ) → Written live_place (region ∷ []) a b → SetsLive region a b
 live_set region most a b written = record {
   live = ap (λ (n : ℕ). n % 2) (held_each b (region ∷ []) live_place 0 (written.holds (omega arith)) (omega arith)) ∙ mod-eq_of_lt (omega arith);

@@ -59,7 +59,7 @@ module _ (l : Layout) (limits : IsInLimits l) where
   pub new_opens : opening (new_file l) ≡ opens l
   new_opens =
       let long = length-new in
-      let few = limits.most_pages in
+      let few = limits.max_pages in
       let log = limits.large_log in
       is_opened (new_file l) (control_head l) head_long new_holds (omega (arith, long)) refl 1 refl refl l
       (sym (big_number-reads_back 4 l.pages (big_bytes 4 l.log_kib) (omega (arith, few))))

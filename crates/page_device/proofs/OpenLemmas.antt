@@ -17,6 +17,7 @@ number_part : (xs : List ℕ) (k : ℕ) → big_number 4 (part xs k 4) ≡ big_n
 unfolding part
 number_part xs k = big_from-take 0 4 4 (drop k xs) (omega arith)
 
+-- the test for equality of different numbers is false
 pub not_equal : (a b : ℕ) → a ≢ b → (a == b) ≡ false
 not_equal a b other = elim (cases_Bool (a == b)) [ inl same ↦ absurd (other (eqb-true a b same)) | inr no_same ↦ no_same ]
 
@@ -80,6 +81,7 @@ no_control : (file : List ℕ) → length file < 4_096 → opening file ≡ not_
 unfolding opening
 no_control file less = ap (λ (t : Bool). if not t && bytes_eq magic (take 8 file) then by_version file else not_store) (lt-ltb _ _ less)
 
+-- a file of fewer than 4,096 bytes is answered as no store
 pub short_answer : (o p : Option (List ℕ)) (size : ℕ) → p ≡ o → IfSome p (λ file. size ≡ length file) → size < 4_096 → IfSome o (IsAnswerFor (Err NotStore))
 short_answer None p size same is less = tt
 short_answer (Some file) p size same is less =
@@ -87,6 +89,7 @@ short_answer (Some file) p size same is less =
     let long : size ≡ length file = subst T same is in
     ap answer_of (sym (no_control file (omega (arith, long, less))))
 
+-- an answer that fits every file of this size and head is the answer for the file that is told
 pub full_answer : (o p q : Option (List ℕ)) (size : ℕ) (head : List ℕ) (r : Result Layout OpenError) → p ≡ o → q ≡ o → IfSome p (λ file. size ≡ length file) → IfSome q (λ file. Holds file 0 head)
     → ((file : List ℕ) → length file ≡ size → Holds file 0 head → r ≡ answer_of (opening file)) → IfSome o (IsAnswerFor r)
 full_answer None p q size head r one two is holds answer = tt
@@ -95,6 +98,7 @@ full_answer (Some file) p q size head r one two is holds answer =
     let S : Option (List ℕ) → Type 0 = λ x. IfSome x (λ file. Holds file 0 head) in
     answered r file (answer file (sym (subst T one is)) (subst S two holds))
 
+-- an error that is no fault needs no cause
 pub no_cause : (r : Result Layout OpenError) (before now : ℕ) → IfErr r IsNoFault → IfErr r (IsCause before now)
 no_cause (Ok l) before now clear = tt
 no_cause (Err (Fault f)) before now clear = absurd clear

@@ -11,6 +11,8 @@ torn_same file at n =
     let whole = take_all (length file) file (omega arith) in
     record { no_shorter = omega arith; no_longer = omega arith; before = ap (take at) whole; after = ap (drop (at + n)) whole }
 
+-- a crash since just before a write leaves what one might have left then, with the write cut short
+-- or whole
 pub write_made : (old new : DiskState) (at n : ℕ) → ((c : List ℕ) → old.left_since old.moment c → old.may_leave c) → Elapses old new
     → Follows (Torn at n) old.may_leave new.may_leave → LeavesOnly old new (MayTear old.may_leave at n)
 write_made old new at n only_now time follows =

@@ -5,7 +5,7 @@ use Rattle.std.proofs.lemmas.List.Elements.{All-tail}
 use Rattle.byteorder.specs.Endian.{big_bytes, big_number}
 use Rattle.byteorder.specs.Numbers.{big_number-reads_back, length-bytes_high_first}
 use Rattle.page_model.specs.Pages.{Write}
-use Rattle.page_model.specs.Frames.{head_bytes, write_bytes, writes_bytes, header_bytes, frame_bytes, greatest_group, write, write_at_head, writes_from, writes_in, IsSmall, AreSmall, IsInside, BeginsWith}
+use Rattle.page_model.specs.Frames.{head_bytes, write_bytes, writes_bytes, header_bytes, frame_bytes, max_group, write, write_at_head, writes_from, writes_in, IsSmall, AreSmall, IsInside, BeginsWith}
 
 length-header : (len count : ℕ) → length (header_bytes len count) ≡ 6
 length-header len count = length-append (big_bytes 4 len) (big_bytes 2 count) ∙ ap₂ (λ (a b : ℕ). a + b) (length-bytes_high_first 4 len) (length-bytes_high_first 2 count)
@@ -30,11 +30,11 @@ unfolding frame_bytes
 length-frame ws = length-append (header_bytes (6 + length (writes_bytes ws)) (length ws)) (writes_bytes ws) ∙ ap (λ (n : ℕ). n + length (writes_bytes ws)) (length-header (6 + length (writes_bytes ws)) (length ws))
 
 -- the number of writes fits, and reads back
-pub count_fits : (ws : List Write) → length (frame_bytes ws) ≤ greatest_group → length ws + 1 < 65_536
+pub count_fits : (ws : List Write) → length (frame_bytes ws) ≤ max_group → length ws + 1 < 65_536
 count_fits ws short = omega (arith, length-frame ws, few_writes ws, short)
 
 -- the number of writes reads back
-pub count_read : (ws : List Write) → length (frame_bytes ws) ≤ greatest_group → big_number 2 (drop 4 (frame_bytes ws)) ≡ length ws
+pub count_read : (ws : List Write) → length (frame_bytes ws) ≤ max_group → big_number 2 (drop 4 (frame_bytes ws)) ≡ length ws
 unfolding frame_bytes
 count_read ws short =
     let four = big_bytes 4 (6 + length (writes_bytes ws)) in
@@ -116,7 +116,7 @@ writes_read (w ∷ ws) small =
     ap₂ (λ (v : Write) (vs : List Write). v ∷ vs) both.0 (ap (writes_from (length ws)) rest ∙ writes_read ws small.1)
 
 -- a frame reads back as its writes
-pub frame_read : (ws : List Write) → AreSmall ws → length (frame_bytes ws) ≤ greatest_group → writes_in (frame_bytes ws) ≡ ws
+pub frame_read : (ws : List Write) → AreSmall ws → length (frame_bytes ws) ≤ max_group → writes_in (frame_bytes ws) ≡ ws
 frame_read ws small short = ap₂ writes_from (count_read ws short) (drop_header ws) ∙ writes_read ws small
 
 -- ---- writes within pages

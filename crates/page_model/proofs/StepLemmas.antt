@@ -3,7 +3,7 @@ use Rattle.std.proofs.Common.{◌≡◌, ◌≢◌, inl, inr, ℕ, ◌+◌, ◌�
 use Rattle.std.proofs.lemmas.Bool.{cases_eq, cases_Bool, or_cases, eq-eqb, ne_eqb, eqb-true}
 use Rattle.std.proofs.lemmas.List.{length-append, append_assoc}
 use Rattle.page_model.specs.Pages.{Pages}
-use Rattle.page_model.specs.Steps.{PageState, among, different, IsWithin, MayUse, Uses, most_pins, known, unknown, MayReach, Reaches, Told, Becomes}
+use Rattle.page_model.specs.Steps.{PageState, among, different, IsWithin, MayUse, Uses, max_pins, known, unknown, MayReach, Reaches, Told, Becomes}
 
 -- ---- among and different
 
@@ -260,7 +260,7 @@ may_reach (Some ns) named most bytes s few may = record {
 }
 
 -- where all that is touched is pinned already
-pub may_pinned : (near named : List ℕ) (most bytes : ℕ) (s : PageState) → IsWithin (near ++ named) s.touched → different s.touched ≤ most_pins → bytes ≤ s.room → MayReach (Some near) named most bytes s
+pub may_pinned : (near named : List ℕ) (most bytes : ℕ) (s : PageState) → IsWithin (near ++ named) s.touched → different s.touched ≤ max_pins → bytes ≤ s.room → MayReach (Some near) named most bytes s
 may_pinned near named most bytes s within few room = record {
   pins = omega (arith, different_within ((near ++ named) ++ s.touched) s.touched (within_both (near ++ named) s.touched s.touched within (λ n is. is)), few);
   room = room;

@@ -53,7 +53,8 @@ all_written (w ∷ ws) pages = all_written ws (written pages w.page w.at w.bytes
 -- each write lies within a page
 abbrev pub AllFit : List Write → Pages → Type 0
 AllFit [] pages = Unit {0}
-AllFit (w ∷ ws) pages = Fits pages w.page w.at (length w.bytes) × AllFit ws (written pages w.page w.at w.bytes)
+AllFit (w ∷ ws) pages = Fits pages w.page w.at (length w.bytes)
+    × AllFit ws (written pages w.page w.at w.bytes)
 
 -- ---- addresses
 

@@ -1,6 +1,8 @@
 -- Parts of pages, and what stays where only some parts change.
---     Span, IsOff, IsApart      some bytes of one page; a byte that isn't among them; two spans without a common byte
---     SameOutside spans old new      pages as many and as long, each byte outside the spans as before
+--     Span, IsOff, IsApart      some bytes of one page; a byte that isn't among them; two spans
+--                               without a common byte
+--     SameOutside spans old new      pages as many and as long, each byte outside the spans as
+--                                    before
 --     SetsField, SetsAddress      what writing one field or one address leaves
 use Rattle.std.specs.Prelude.{◌≡◌, ◌≢◌, ◌⊎◌, ℕ, ◌+◌, ◌<◌, ◌≤◌, List, [], ◌∷◌, length}
 use Rattle.page_model.specs.Pages.{Pages, page_at, byte, field, Address, address_at, Write}

@@ -1,6 +1,7 @@
 -- A page's layout as a table of fields, each with the value that it is to hold.
 --     Field, field_at      where a field stands, how wide it is, and its value
---     HasFields, SetsFields      the fields of a page have these values; they were written, and nothing else
+--     HasFields, SetsFields      the fields of a page have these values; they were written, and
+--                                nothing else
 --     field_write, AreNarrow      what writes a field; each value has room in its field
 --     are_rising, table_end      the fields stand one behind another; where the last of them ends
 --     header_fields, base_fields      a page's header, and the base of a list without nodes
@@ -23,7 +24,8 @@ field_span page f = span page f.at f.width
 -- each field has its value
 abbrev pub HasFields : Pages → ℕ → List Field → Type 0
 HasFields pages page [] = Unit {0}
-HasFields pages page (f ∷ more) = (field pages page f.at f.width ≡ f.value) × HasFields pages page more
+HasFields pages page (f ∷ more) =
+    (field pages page f.at f.width ≡ f.value) × HasFields pages page more
 
 -- the fields were written, and every byte outside them is as it was
 pub record SetsFields (page : ℕ) (table : List Field) (old new : Pages) : Type 0 where
@@ -48,10 +50,13 @@ abbrev pub table_end : ℕ → List Field → ℕ
 table_end from [] = from
 table_end from (f ∷ more) = table_end (f.at + f.width) more
 
--- the fields of a page's header that aren't always zero: its number, the pages before and behind it, and its type
+-- the fields of a page's header that aren't always zero: its number, the pages before and behind
+-- it, and its type
 abbrev pub header_fields : ℕ → ℕ → ℕ → ℕ → List Field
-header_fields number before behind type = field_at 4 4 number ∷ field_at 8 4 before ∷ field_at 12 4 behind ∷ field_at 24 2 type ∷ []
+header_fields number before behind type =
+    field_at 4 4 number ∷ field_at 8 4 before ∷ field_at 12 4 behind ∷ field_at 24 2 type ∷ []
 
 -- the base of a list without nodes: its length, and both addresses, null
 abbrev pub base_fields : ℕ → List Field
-base_fields at = field_at at 4 0 ∷ field_at (at + 4) 4 null_page ∷ field_at (at + 8) 2 0 ∷ field_at (at + 10) 4 null_page ∷ field_at (at + 14) 2 0 ∷ []
+base_fields at = field_at at 4 0 ∷ field_at (at + 4) 4 null_page ∷ field_at (at + 8) 2 0
+    ∷ field_at (at + 10) 4 null_page ∷ field_at (at + 14) 2 0 ∷ []

@@ -1,4 +1,5 @@
-//! What stands in pages, and laws about it: fields, writes and their frame, lists of nodes, and what is counted of them.
+//! What stands in pages, and laws about it: fields, writes and their frame, lists of nodes, and
+//! what is counted of them.
 #![tactic(auto)]
 
 mod laws;

@@ -10,10 +10,11 @@ use Rattle.page_model.proofs.FrameLemmas.{field_kept, apart_off, outside_then, o
 use Rattle.page_model.proofs.StepLemmas.{told_step}
 use Rattle.page_space.specs.declared.count.Found.{Found}
 use Rattle.page_space.specs.Bits.{ChangesBit, map_bit, AreOnes, IsLowestZero}
-use Rattle.page_space.specs.Map.{IsSize, place_of, bit, IsUsed, IsFree, zeros, free_of, IsMap, SetsBit, TakesPage, GivesPage, IsLowestFree, most_pages}
+use Rattle.page_space.specs.Map.{IsSize, place_of, bit, IsUsed, IsFree, zeros, free_of, IsMap, SetsBit, TakesPage, GivesPage, IsLowestFree, max_pages}
 
 -- ---- bytes and bits
 
+-- a field of one byte is the byte that stands there
 pub field-byte : (pages : Pages) (page at : ℕ) → field pages page at 1 ≡ byte pages page at
 unfolding field
 field-byte pages page at =
@@ -25,7 +26,7 @@ field-byte pages page at =
     add_zero n = omega arith
 
 -- a bit of the bytes of a map that were read
-pub bit_read : (pages : Pages) (map : List ℕ) (k : ℕ) → map ≡ bytes_at pages 0 128 4_096 → k < most_pages → map_bit map k ≡ bit pages k
+pub bit_read : (pages : Pages) (map : List ℕ) (k : ℕ) → map ≡ bytes_at pages 0 128 4_096 → k < max_pages → map_bit map k ≡ bit pages k
 bit_read pages map k is below =
     ap (λ (m : List ℕ). map_bit m k) is
     ∙ ap (λ (b : ℕ). bit_at b (k % 8)) (get_or-take 4_096 (drop 128 (page_at pages 0)) (k / 8) 0 (omega arith) ∙ get_or-drop 128 (page_at pages 0) (k / 8) 0)
@@ -99,7 +100,7 @@ bit_written old mid new page value b b' m is change s1 s2 =
     }
 
 -- the other bits past the pages stay
-beyond_kept : (old new : Pages) (page value : ℕ) → SetsBit page value old new → page < length old → IsMap old → (k : ℕ) → length new ≤ k → k < most_pages → IsFree new k
+beyond_kept : (old new : Pages) (page value : ℕ) → SetsBit page value old new → page < length old → IsMap old → (k : ℕ) → length new ≤ k → k < max_pages → IsFree new k
 beyond_kept old new page value change there map k past below =
     let many = change.outside.many in
     change.others k (λ e. absurd (omega (arith, many, e))) ∙ map.beyond k (omega (arith, many)) below
@@ -149,7 +150,7 @@ given old mid new page b b' free map there used byte_is change is s1 s2 =
 -- a map stays where nothing changes but bytes apart from it
 pub map_kept : (xs : List Span) (old new : Pages) → SameOutside xs old new → IsApartFromAll xs (span 0 62 4) → IsApartFromAll xs (span 0 128 4_096) → IsMap old → IsMap new
 map_kept xs old new same apart apart' map =
-    let bits : (k : ℕ) → k < most_pages → bit new k ≡ bit old k = λ k below. ap (λ (n : ℕ). bit_at n (k % 8)) (same.bytes 0 (place_of k) (apart_off xs 0 128 4_096 (k / 8) (omega arith) apart')) in
+    let bits : (k : ℕ) → k < max_pages → bit new k ≡ bit old k = λ k below. ap (λ (n : ℕ). bit_at n (k % 8)) (same.bytes 0 (place_of k) (apart_off xs 0 128 4_096 (k / 8) (omega arith) apart')) in
     let few = map.size.few in
     record {
       size = size_kept old new same.many map.size;
@@ -167,14 +168,16 @@ at_told o Q pages is fact = let P : Option Pages → Type 0 = λ p. IfSome p Q i
 pub count_within : (pages : Pages) → IsMap pages → free_of pages ≤ length pages
 count_within pages map = omega (arith, map.count, zeros_bound pages (length pages))
 
+-- where some page is used, fewer pages are free than there are
 pub count_below : (pages : Pages) (page : ℕ) → IsMap pages → page < length pages → IsUsed pages page → free_of pages < length pages
 count_below pages page map there used = omega (arith, map.count, zeros_less pages page (length pages) there used)
 
+-- where every page is used, none counts as free
 pub count_none : (pages : Pages) → IsMap pages → ((k : ℕ) → k < length pages → IsUsed pages k) → free_of pages ≡ 0
 count_none pages map used = map.count ∙ zeros_none pages (length pages) used
 
 -- the lowest zero of the bytes that were read is the lowest free page
-pub lowest_read : (told : Option Pages) (map : List ℕ) (count k b : ℕ) → count ≤ most_pages → IfSome told (λ pages. map ≡ bytes_at pages 0 128 4_096) → IsLowestZero map count k → b ≡ get_or map (k / 8) 0
+pub lowest_read : (told : Option Pages) (map : List ℕ) (count k b : ℕ) → count ≤ max_pages → IfSome told (λ pages. map ≡ bytes_at pages 0 128 4_096) → IsLowestZero map count k → b ≡ get_or map (k / 8) 0
     → IfSome told (λ pages. IsLowestFree pages k b)
 lowest_read None map count k b few reads lowest is = tt
 lowest_read (Some pages) map count k b few reads lowest is =
@@ -185,7 +188,7 @@ lowest_read (Some pages) map count k b few reads lowest is =
       same_byte = is ∙ ap (λ (m : List ℕ). get_or m (k / 8) 0) reads ∙ get_or-take 4_096 (drop 128 (page_at pages 0)) (k / 8) 0 (omega arith) ∙ get_or-drop 128 (page_at pages 0) (k / 8) 0;
     }
 
-pub none_read : (told : Option Pages) (map : List ℕ) (count : ℕ) → count ≤ most_pages → IfSome told (λ pages. map ≡ bytes_at pages 0 128 4_096) → AreOnes map count
+pub none_read : (told : Option Pages) (map : List ℕ) (count : ℕ) → count ≤ max_pages → IfSome told (λ pages. map ≡ bytes_at pages 0 128 4_096) → AreOnes map count
     → IfSome told (λ pages. (k : ℕ) → k < count → IsUsed pages k)
 none_read None map count few reads ones = tt
 none_read (Some pages) map count few reads ones = λ k below. sym (bit_read pages map k reads (omega arith)) ∙ ones k below
@@ -194,15 +197,18 @@ none_read (Some pages) map count few reads ones = λ k below. sym (bit_read page
 pub is_one : (x : ℕ) (r : Bool) → x ≡ 1 → r ≡ (x == 1) → r ≡ false → ⊥
 is_one x r one is not = let e : true ≡ false = sym (eq-eqb x 1 one) ∙ sym is ∙ not in cc
 
+-- n bytes read where the map stands are the whole map, where n is 4,096
 pub map_there : (told : Option Pages) (map : List ℕ) (n : ℕ) → n ≡ 4_096 → IfSome told (λ pages. map ≡ bytes_at pages 0 128 n) → IfSome told (λ pages. map ≡ bytes_at pages 0 128 4_096)
 map_there told map n is reads = let P : ℕ → Type 0 = λ m. IfSome told (λ pages. map ≡ bytes_at pages 0 128 m) in subst P is reads
 
-pub found_read : (r : Option Found) (told : Option Pages) (map : List ℕ) (count : ℕ) → count ≤ most_pages → IfSome told (λ pages. map ≡ bytes_at pages 0 128 4_096)
+-- the lowest zero found in the map's bytes is the lowest free page, with the byte of its bit
+pub found_read : (r : Option Found) (told : Option Pages) (map : List ℕ) (count : ℕ) → count ≤ max_pages → IfSome told (λ pages. map ≡ bytes_at pages 0 128 4_096)
     → IfSome r (λ f. IsLowestZero map count f.page × (f.byte ≡ get_or map (f.page / 8) 0)) → IfSome r (λ f. IfSome told (λ pages. IsLowestFree pages f.page f.byte))
 found_read None told map count few reads fact = tt
 found_read (Some f) told map count few reads fact = lowest_read told map count f.page f.byte few reads fact.0 fact.1
 
-pub nothing_read : (r : Option Found) (told : Option Pages) (map : List ℕ) (count n : ℕ) → n ≡ count → count ≤ most_pages → IfSome told (λ pages. map ≡ bytes_at pages 0 128 4_096)
+-- where the bits of all pages are ones in the map's bytes, every page is used
+pub nothing_read : (r : Option Found) (told : Option Pages) (map : List ℕ) (count n : ℕ) → n ≡ count → count ≤ max_pages → IfSome told (λ pages. map ≡ bytes_at pages 0 128 4_096)
     → IfNone r (AreOnes map n) → IfNone r (IfSome told (λ pages. (k : ℕ) → k < count → IsUsed pages k))
 nothing_read None told map count n is few reads ones = none_read told map count few reads (let P : ℕ → Type 0 = λ m. AreOnes map m in subst P is ones)
 nothing_read (Some f) told map count n is few reads ones = tt
@@ -217,6 +223,7 @@ takes t0 t1 t2 pages page b b' free reserved is map there found change same some
     let r = taken pages b1.0 b2.0 page b b' free map there found change same some b1.2 b2.2 in
     (b2.0, b2.1, (r, omega (arith, r.fewer)))
 
+-- a used page's bit cleared, and the count of free pages raised by one, give the page back
 pub gives : (t0 t1 t2 : Option Pages) (pages : Pages) (page b b' free : ℕ) → t0 ≡ Some pages → IsMap pages → page < length pages → IsUsed pages page → b ≡ byte pages 0 (place_of page) → ChangesBit (page % 8) 0 b b'
     → free ≡ free_of pages → Told (SetsField 0 (place_of page) 1 b') t0 t1 → Told (SetsField 0 62 4 (free + 1)) t1 t2 → Becomes t2 (GivesPage page pages)
 gives t0 t1 t2 pages page b b' free is map there used byte_is change same w1 w2 =

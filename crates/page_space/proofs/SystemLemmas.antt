@@ -12,7 +12,7 @@ use Rattle.page_model.specs.Steps.{Told}
 use Rattle.page_model.specs.Tables.{Field, field_at, HasFields, SetsFields, header_fields, base_fields}
 use Rattle.page_model.proofs.FrameLemmas.{length-patched, get_or-patched_here, page_at-written, written_outside}
 use Rattle.page_model.proofs.TableLemmas.{sets_then, has_left, has_right, fields_alone, rising_across, rising_past, base_empty}
-use Rattle.page_space.specs.Map.{IsSize, most_pages, bit, zeros, free_of}
+use Rattle.page_space.specs.Map.{IsSize, max_pages, bit, zeros, free_of}
 use Rattle.page_space.specs.System.{IsSystemPage, MakesSystem, counter_fields, system_fields, in_system}
 use Rattle.page_space.proofs.MapLemmas.{field-byte}
 
@@ -72,7 +72,7 @@ module _ (count : ℕ) (pages : Pages) (system : IsSystemPage count (page_at pag
   bit_first : bit pages 0 ≡ 1
   bit_first = ap (λ (n : ℕ). bit_at n 0) first_byte
 
-  bit_rest : (k : ℕ) → 1 ≤ k → k < most_pages → bit pages k ≡ 0
+  bit_rest : (k : ℕ) → 1 ≤ k → k < max_pages → bit pages k ≡ 0
   bit_rest k some few = elim (cases_lt k 8) [
     | inl low ↦
         let place : k / 8 ≡ 0 = omega arith in
@@ -80,7 +80,7 @@ module _ (count : ℕ) (pages : Pages) (system : IsSystemPage count (page_at pag
     | inr high ↦ ap (λ (n : ℕ). bit_at n (k % 8)) (system.rest (128 + k / 8) (rising_past 0 0 (system_fields count) (128 + k / 8) refl (omega arith))) ∙ bit_at-zero (k % 8)
   ]
 
-  zeros_new : (n : ℕ) → n + 1 ≤ most_pages → zeros pages (suc n) ≡ n
+  zeros_new : (n : ℕ) → n + 1 ≤ max_pages → zeros pages (suc n) ≡ n
   unfolding zeros
   zeros_new zero few = omega (arith, bit_first)
   zeros_new (suc n) few = omega (arith, zeros_new n (omega arith), bit_rest (suc n) (omega arith) (omega arith))
@@ -126,6 +126,7 @@ makes pages count q whole size len system =
       committed_logs = committed_empty count new here;
     }
 
+-- a system page written over page 0 of whole pages makes the system, where they are told
 pub makes_told : (old new : Option Pages) (count : ℕ) (q : List ℕ) → ((pages : Pages) → old ≡ Some pages → AreWhole pages count) → IsSize count → length q ≡ page_bytes → IsSystemPage count q
     → new ≡ option_map (λ pages. written pages 0 0 q) old → Told MakesSystem old new
 makes_told None new count q whole size len system is = is

@@ -1,6 +1,7 @@
 -- What the calls on the map may answer.
 --     IsCount      the fault names the count of free pages
---     IsOddCount, IsSpentOrOdd, IsRaisedOrNotUsed      what reserving, taking and giving back may name
+--     IsOddCount, IsSpentOrOdd, IsRaisedOrNotUsed      what reserving, taking and giving back may
+--          name
 --     AnswersReserve, IsHonestRefusal      when a reservation is made, and when it is refused
 --     HasSpaceCause      Device comes only where the count of faults rose
 use Rattle.std.specs.Prelude.{◌≡◌, ◌⊎◌, ℕ, ◌%◌, ◌<◌, ◌≤◌, IfSome, Option, Result, Ok, Err}
@@ -41,15 +42,19 @@ pub record IsNotUsed (told : Option Pages) (k page at value : ℕ) : Type 0 wher
   pub free : bit_at value (k % 8) ≡ 0
 
 abbrev pub IsSpentOrOdd : Option Pages → ℕ → Oddity
-IsSpentOrOdd told count page at value = IsOddCount told count page at value ⊎ IsSpent told count page at value
+IsSpentOrOdd told count page at value =
+    IsOddCount told count page at value ⊎ IsSpent told count page at value
 
 abbrev pub IsRaisedOrNotUsed : Option Pages → ℕ → ℕ → Oddity
-IsRaisedOrNotUsed told count k page at value = IsRaised told count page at value ⊎ IsNotUsed told k page at value
+IsRaisedOrNotUsed told count k page at value =
+    IsRaised told count page at value ⊎ IsNotUsed told k page at value
 
--- exactly where more pages are needed than are free and not reserved it is refused, unless the device fails
+-- exactly where more pages are needed than are free and not reserved it is refused, unless the
+-- device fails
 abbrev pub AnswersReserve : {T : Type 0} → ℕ → ℕ → Result T SpaceError → Type 0
 AnswersReserve need unreserved (Ok done) = need ≤ unreserved
-AnswersReserve need unreserved (Err (Full n free)) = (n ≡ need) × (free ≡ unreserved) × (unreserved < need)
+AnswersReserve need unreserved (Err (Full n free)) =
+    (n ≡ need) × (free ≡ unreserved) × (unreserved < need)
 AnswersReserve need unreserved (Err (Failed fault)) = fault ≡ Device
 
 abbrev pub IsHonestRefusal : Oddity → ℕ → SpaceError → Type 0

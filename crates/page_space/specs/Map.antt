@@ -10,13 +10,13 @@ use Rattle.page_model.specs.Spans.{Span, span, SameOutside}
 use Rattle.page_space.specs.declared.layout.TheConstants.{FREE_PAGES, MAP, MAP_BYTES}
 
 -- as many pages as the map has bits for
-abbrev pub most_pages : ℕ
-most_pages = 32_768
+abbrev pub max_pages : ℕ
+max_pages = 32_768
 
 -- a store has a system page, and no more pages than the map has bits for
 pub record IsSize (count : ℕ) : Type 0 where
   pub some : 1 ≤ count
-  pub few : count ≤ most_pages
+  pub few : count ≤ max_pages
 
 -- the byte of the map in which page k has its bit
 abbrev pub place_of : ℕ → ℕ
@@ -42,7 +42,7 @@ free_of pages = field pages 0 FREE_PAGES 4
 pub record IsMap (pages : Pages) : Type 0 where
   pub size : IsSize (length pages)
   pub count : free_of pages ≡ zeros pages (length pages)
-  pub beyond : (k : ℕ) → length pages ≤ k → k < most_pages → IsFree pages k
+  pub beyond : (k : ℕ) → length pages ≤ k → k < max_pages → IsFree pages k
 
 -- the bytes that a map rests on
 abbrev pub map_spans : List Span
@@ -52,7 +52,8 @@ map_spans = span 0 FREE_PAGES 4 ∷ span 0 MAP MAP_BYTES ∷ []
 abbrev pub IfMapped : Option Pages → (Pages → Type 0) → Type 0
 IfMapped told Q = (pages : Pages) → told ≡ Some pages → IsMap pages → Q pages
 
--- this page has this bit, each other page the one that it had, and nothing changed but the byte with the bit and the count
+-- this page has this bit, each other page the one that it had, and nothing changed but the byte
+-- with the bit and the count
 pub record SetsBit (page value : ℕ) (old new : Pages) : Type 0 where
   pub here : bit new page ≡ value
   pub others : (k : ℕ) → k ≢ page → bit new k ≡ bit old k

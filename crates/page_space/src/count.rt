@@ -17,7 +17,8 @@ pub fn free_pages<P: Pages>(p: &mut P) -> Result<u32, Fault>
     requires may { MayUse (0 ∷ []) 0 0 (P.state p.old) }
     ensures value { IfOk result (λ n. IfSome (P.state p.old).told (λ pages. n ≡ free_of pages)) }
     ensures fits { IfOk result (λ n. n ≤ (P.state p.old).count) }
-    ensures honest { IfErr result (IsHonest (IsOddCount (P.state p.old).told (P.state p.old).count)) }
+    ensures honest { IfErr result (IsHonest
+        (IsOddCount (P.state p.old).told (P.state p.old).count)) }
     ensures never { IfMapped (P.state p.old).told (λ pages. FailsPlainly result) }
     ensures told { (P.state p.new).told ≡ (P.state p.old).told }
     ensures uses { Uses P.state P.stays (0 ∷ []) 0 0 p.old p.new }
@@ -62,7 +63,8 @@ pub fn lowest_free<P: Pages>(p: &mut P) -> Result<Option<Found>, Fault>
 fn lowest_in(map: &[u8], count: u32) -> Option<Found>
     requires map { length map.now ≤ MAP_BYTES }
     requires within { count ≤ 8 * length map.now }
-    ensures some { IfSome result (λ f. IsLowestZero map.now count f.page × (f.byte ≡ slice_index map.now (f.page / 8))) }
+    ensures some { IfSome result (λ f. IsLowestZero map.now count f.page
+        × (f.byte ≡ slice_index map.now (f.page / 8))) }
     ensures none { IfNone result (AreOnes map.now count) }
 {
     let Some(page) = lowest_zero(map, count) else {

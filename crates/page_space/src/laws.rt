@@ -6,6 +6,7 @@ ghost use Rattle.page_space.specs.Map.{IsMap, map_spans};
 
 /// A map stays where nothing changes but bytes apart from it.
 pub fn map_stays()
-    ensures { (spans : List Span) (old new : Pages) → SameOutside spans old new → AreApart spans map_spans
+    ensures { (spans : List Span) (old new : Pages) → SameOutside spans old new
+        → AreApart spans map_spans
         → IsMap old → IsMap new }
 {}

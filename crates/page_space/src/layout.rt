@@ -1,4 +1,5 @@
-//! Where the fields of the system page, page 0, stand. Each number is big-endian. What the table doesn't name is zero.
+//! Where the fields of the system page, page 0, stand. Each number is big-endian. What the table
+//! doesn't name is zero.
 //!
 //! | Offset | Bytes | Field |
 //! |---|---|---|
@@ -10,7 +11,7 @@
 //! | 66 | 16 | base of the list of row pages |
 //! | 82 | 16 | base of the list of active undo logs |
 //! | 98 | 16 | base of the list of committed undo logs |
-//! | 128 | 4,096 | map of used pages: page k is bit k mod 8, the lowest first, of byte k / 8, and 1 means used |
+//! | 128 | 4,096 | map of used pages: page k is bit k mod 8, lowest first, of byte k / 8 |
 
 use engine_base::{HEADER_BYTES, PageNo, PageType};
 
@@ -53,7 +54,8 @@ pub const SYSTEM_TYPE: u16 = PageType::System as u16;
 
 const _: () = prove!(SYSTEM_TYPE == 1);
 
-/// Where the addresses of a base's first and last node stand, page and then offset, from the base on.
+/// Where the addresses of a base's first and last node stand, page and then offset, from the base
+/// on.
 pub const FIRST: u16 = 4;
 
 pub const FIRST_AT: u16 = FIRST + 4;

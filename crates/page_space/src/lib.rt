@@ -1,5 +1,5 @@
-//! Which pages of a store are used: the map and the count of free pages in the system page, page 0, and pages reserved
-//! before they are taken.
+//! Which pages of a store are used: the map and the count of free pages in the system page, page 0,
+//! and pages reserved before they are taken.
 #![tactic(auto)]
 
 mod bits;

@@ -50,12 +50,13 @@ impl Space {
         self.reserved
     }
 
-    /// Promises n further pages. Each later `take` uses one of them up. A refusal changes nothing. Touches page 0, and
-    /// writes nothing.
+    /// Promises n further pages. Each later `take` uses one of them up. A refusal changes nothing.
+    /// Touches page 0, and writes nothing.
     pub fn reserve<P: Pages>(&mut self, p: &mut P, n: u32) -> Result<(), SpaceError>
         requires size { IsSize (P.state p.old).count }
         requires may { MayUse (0 ∷ []) 0 0 (P.state p.old) }
-        ensures answers { IfMapped (P.state p.old).told (λ pages. AnswersReserve n (free_of pages - self.old) result) }
+        ensures answers { IfMapped (P.state p.old).told
+            (λ pages. AnswersReserve n (free_of pages - self.old) result) }
         ensures ok { OnOk result (self.new ≡ self.old + n) }
         ensures err { OnErr result (self.new ≡ self.old) }
 
@@ -82,8 +83,8 @@ impl Space {
         Ok(())
     }
 
-    /// Takes the lowest free page, which uses up one that is reserved. Touches page 0, and writes 5 bytes in two
-    /// writes.
+    /// Takes the lowest free page, which uses up one that is reserved. Touches page 0, and writes 5
+    /// bytes in two writes.
     pub fn take<P: Pages>(&mut self, p: &mut P) -> Result<PageNo, Fault>
         requires one { 1 ≤ self.old }
         requires size { IsSize (P.state p.old).count }
@@ -98,7 +99,8 @@ impl Space {
         // Strange names the count of free pages, as it stood at the call.
         ensures honest { IfErr result
             (IsHonest (IsSpentOrOdd (P.state p.old).told (P.state p.old).count)) }
-        ensures never { IfMapped (P.state p.old).told (λ pages. self.old ≤ free_of pages → FailsPlainly result) }
+        ensures never { IfMapped (P.state p.old).told
+            (λ pages. self.old ≤ free_of pages → FailsPlainly result) }
         ensures cause { HasCause (P.state p.old).faults (P.state p.new).faults result }
 
         ensures uses { Uses P.state P.stays (0 ∷ []) 0 (5 + 2 * write_head) p.old p.new }
@@ -117,7 +119,8 @@ impl Space {
         Ok(PageNo(found.page))
     }
 
-    /// Gives a page that is used back. It isn't reserved. Touches page 0, and writes 5 bytes in two writes.
+    /// Gives a page that is used back. It isn't reserved. Touches page 0, and writes 5 bytes in two
+    /// writes.
     pub fn give<P: Pages>(&mut self, p: &mut P, page: PageNo) -> Result<(), Fault>
         requires page { page.0 < (P.state p.old).count }
         requires size { IsSize (P.state p.old).count }
@@ -126,10 +129,12 @@ impl Space {
             → OnOk result (Becomes (P.state p.new).told (GivesPage page.0 pages))) }
         ensures reserved { self.new ≡ self.old }
 
-        // Strange names the count of free pages or the byte with the page's bit, as either stood at the call.
+        // Strange names the count of free pages or the byte with the page's bit, as either stood at
+        // the call.
         ensures honest { IfErr result
             (IsHonest (IsRaisedOrNotUsed (P.state p.old).told (P.state p.old).count page.0)) }
-        ensures never { IfMapped (P.state p.old).told (λ pages. IsUsed pages page.0 → FailsPlainly result) }
+        ensures never { IfMapped (P.state p.old).told
+            (λ pages. IsUsed pages page.0 → FailsPlainly result) }
         ensures cause { HasCause (P.state p.old).faults (P.state p.new).faults result }
 
         ensures uses { Uses P.state P.stays (0 ∷ []) 0 (5 + 2 * write_head) p.old p.new }

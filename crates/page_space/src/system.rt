@@ -13,8 +13,9 @@ use crate::layout::{
 use engine_base::FieldValue::{Eight, Four, One, Two};
 use engine_base::{Fault, NULL_PAGE, PAGE_BYTES, PageHeader, PageType, Pages, fill_fields};
 
-/// Writes the whole of page 0 as a new store has it: page 0 alone is used, the lists have no nodes, and the next
-/// transaction id is 1. One write of 16,384 bytes, which are laid out on the stack first.
+/// Writes the whole of page 0 as a new store has it: page 0 alone is used, the lists have no nodes,
+/// and the next transaction id is 1. One write of 16,384 bytes, which are laid out on the stack
+/// first.
 pub fn make_system<P: Pages>(p: &mut P) -> Result<(), Fault>
     requires size { IsSize (P.state p.old).count }
     requires may { MayUse (0 ∷ []) 0 (page_bytes + write_head) (P.state p.old) }

@@ -1,6 +1,8 @@
--- The text of a path: of MySQL 8.0's path expressions (Reference Manual, "JSON Path Syntax") the legs that lead to one place.
+-- The text of a path: of MySQL 8.0's path expressions (Reference Manual, "JSON Path Syntax") the
+-- legs that lead to one place.
 --     path_text      the one text that is printed
---     read_path      the path of a text, or its first fault: at the first byte that can't go on. Places count bytes from 0
+--     read_path      the path of a text, or its first fault: at the first byte that can't go on.
+--                    Places count bytes from 0
 use Rattle.std.specs.Prelude.{ℕ, zero, suc, ◌+◌, ◌*◌, ◌-◌, ◌^◌, ◌==◌, ◌||◌, ◌&&◌, Bool, true, false, List, [], ◌∷◌, ◌++◌, length, flat_map, codes, decimal, nat_eq, nat_lt, nat_le, is_some, if◌then◌else◌, Option, Some, None, Result, Ok, Err}
 use Rattle.std.specs.List.{list_all, list_any, starts_with}
 use Rattle.std.specs.Char.{is_ascii_alphabetic, is_ascii_digit, is_ascii_hexdigit}
@@ -43,8 +45,9 @@ pub data PathFault : Type 0 where
   Syntax : ℕ → PathFault
   LongKey : PathFault
 
--- where a scan of a string stands: behind a whole character, behind a backslash, behind `\u`, behind `\ud`, before the last digits of a unit, before
--- those of the first half of a surrogate pair, behind that half, and behind the backslash, the `\u` and the `\ud` of the second
+-- where a scan of a string stands: behind a whole character, behind a backslash, behind `\u`,
+-- behind `\ud`, before the last digits of a unit, before those of the first half of a surrogate
+-- pair, behind that half, and behind the backslash, the `\u` and the `\ud` of the second
 pub data StringState : Type 0 where
   whole : StringState
   backslash : StringState
@@ -62,7 +65,8 @@ is_d c = (c == 68) || (c == 100)
 
 -- 8, 9, a, b: the first half is from d800 to dbff
 abbrev pub is_in_first : ℕ → Bool
-is_in_first c = (nat_le 56 c && nat_le c 57) || ((nat_le 65 c && nat_le c 66) || (nat_le 97 c && nat_le c 98))
+is_in_first c = (nat_le 56 c && nat_le c 57)
+    || ((nat_le 65 c && nat_le c 66) || (nat_le 97 c && nat_le c 98))
 
 -- c to f: the second half is from dc00 to dfff
 abbrev pub is_in_second : ℕ → Bool
@@ -71,12 +75,15 @@ is_in_second c = (nat_le 67 c && nat_le c 70) || (nat_le 99 c && nat_le c 102)
 abbrev pub if_digit : ℕ → StringState → Option StringState
 if_digit c s = if is_ascii_hexdigit c then Some s else None
 
--- where the byte leads in a string, None where it can't go on: a second half stands behind a first one alone
+-- where the byte leads in a string, None where it can't go on: a second half stands behind a first
+-- one alone
 abbrev pub next_state : StringState → ℕ → Option StringState
 next_state whole c = if nat_lt c 32 then None else Some (if c == 92 then backslash else whole)
-next_state backslash c = if c == 117 then Some unit else (if is_some (short_escape c) then Some whole else None)
+next_state backslash c = if c == 117 then Some unit
+    else (if is_some (short_escape c) then Some whole else None)
 next_state unit c = if is_d c then Some unit_d else if_digit c (more 3)
-next_state unit_d c = if is_in_first c then Some (first_half 2) else (if is_in_second c then None else if_digit c (more 2))
+next_state unit_d c = if is_in_first c then Some (first_half 2)
+    else (if is_in_second c then None else if_digit c (more 2))
 next_state (more n) c = if_digit c (if nat_lt 1 n then more (n - 1) else whole)
 next_state (first_half n) c = if_digit c (if nat_lt 1 n then first_half (n - 1) else half)
 next_state half c = if c == 92 then Some half_backslash else None
@@ -93,9 +100,10 @@ abbrev pub string_stop : StringState → List ℕ → ℕ
 string_stop s [] = 0
 string_stop s (c ∷ cs) = one_more (next_state s c) (λ next. string_stop next cs)
 
--- where a scan of a path stands: before its `$`, where a leg may begin, behind a dot, behind these bytes of a bare key, in the quotes of this
--- key, there behind a backslash, behind a bracket, in `last` before these letters, behind `last-`, and behind count digits of a number
--- (from the end or not; the place of the first digit; their value)
+-- where a scan of a path stands: before its `$`, where a leg may begin, behind a dot, behind these
+-- bytes of a bare key, in the quotes of this key, there behind a backslash, behind a bracket, in
+-- `last` before these letters, behind `last-`, and behind count digits of a number (from the end or
+-- not; the place of the first digit; their value)
 pub data PathState : Type 0 where
   start : PathState
   between : PathState
@@ -115,7 +123,8 @@ Goes = PathState → Path → Result Path PathFault
 abbrev pub begun_leg : ℕ → Path → ℕ → Goes → Result Path PathFault
 begun_leg c ls at go =
     if c == 42 then Err (Wildcard at)
-    else (if ((c == 46) || (c == 91)) && nat_lt (length ls) max_legs then go (if c == 46 then dot else bracket) ls else Err (Syntax at))
+    else (if ((c == 46) || (c == 91)) && nat_lt (length ls) max_legs
+    then go (if c == 46 then dot else bracket) ls else Err (Syntax at))
 
 -- the quotes end where JSON says
 abbrev pub quoted_key : Option (List ℕ) → Path → ℕ → List ℕ → Goes → Result Path PathFault
@@ -130,7 +139,8 @@ closed_index l c cs ls at go =
 -- at most ten digits, and a number below 2^32
 abbrev pub one_digit : Bool → ℕ → ℕ → ℕ → ℕ → Path → Goes → Result Path PathFault
 one_digit from_end first count value c ls go =
-    if nat_lt count 10 && nat_lt (value * 10 + (c - 48)) (2 ^ 32) then go (digits from_end first (count + 1) (value * 10 + (c - 48))) ls
+    if nat_lt count 10 && nat_lt (value * 10 + (c - 48)) (2 ^ 32)
+    then go (digits from_end first (count + 1) (value * 10 + (c - 48))) ls
     else Err (Syntax first)
 
 abbrev pub index_leg : Bool → ℕ → Leg
@@ -142,18 +152,25 @@ step start c cs ls at go = if c == 36 then go between ls else Err (Syntax at)
 step between c cs ls at go = begun_leg c ls at go
 step dot c cs ls at go =
     if c == 42 then Err (Wildcard at)
-    else (if c == 34 then quoted_key (content plain cs) ls at cs go else (if begins_key c then go (bare (c ∷ [])) ls else Err (Syntax at)))
-step (bare k) c cs ls at go = if goes_in_key c then go (bare (k ++ c ∷ [])) ls else begun_leg c (ls ++ key k ∷ []) at go
-step (inside k) c cs ls at go = if c == 34 then go between (ls ++ key k ∷ []) else go (if c == 92 then escaped k else inside k) ls
+    else (if c == 34 then quoted_key (content plain cs) ls at cs go
+    else (if begins_key c then go (bare (c ∷ [])) ls else Err (Syntax at)))
+step (bare k) c cs ls at go = if goes_in_key c then go (bare (k ++ c ∷ [])) ls
+    else begun_leg c (ls ++ key k ∷ []) at go
+step (inside k) c cs ls at go = if c == 34 then go between (ls ++ key k ∷ [])
+    else go (if c == 92 then escaped k else inside k) ls
 step (escaped k) c cs ls at go = go (inside k) ls
 step bracket c cs ls at go =
     if c == 42 then Err (Wildcard at)
-    else (if c == 108 then go (letters (codes "ast")) ls else (if is_ascii_digit c then one_digit false at 0 0 c ls go else Err (Syntax at)))
+    else (if c == 108 then go (letters (codes "ast")) ls
+    else (if is_ascii_digit c then one_digit false at 0 0 c ls go else Err (Syntax at)))
 step (letters (x ∷ xs)) c cs ls at go = if c == x then go (letters xs) ls else Err (Syntax at)
-step (letters []) c cs ls at go = if c == 45 then go minus ls else closed_index (last 0) c cs ls at go
-step minus c cs ls at go = if is_ascii_digit c then one_digit true at 0 0 c ls go else Err (Syntax at)
+step (letters []) c cs ls at go =
+    if c == 45 then go minus ls else closed_index (last 0) c cs ls at go
+step minus c cs ls at go = if is_ascii_digit c then one_digit true at 0 0 c ls go
+    else Err (Syntax at)
 step (digits from_end first count value) c cs ls at go =
-    if is_ascii_digit c then one_digit from_end first count value c ls go else closed_index (index_leg from_end value) c cs ls at go
+    if is_ascii_digit c then one_digit from_end first count value c ls go
+    else closed_index (index_leg from_end value) c cs ls at go
 
 -- where the text ends
 abbrev pub ended : PathState → Path → ℕ → Result Path PathFault

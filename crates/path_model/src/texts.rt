@@ -18,9 +18,11 @@ pub fn row_faults()
 /// A path is read so, and printed so.
 pub fn row_printed()
     ensures root { read_path (codes "$") ≡ Ok [] }
-    ensures legs { read_path (codes "$.a_1[0][last][last-3].$") ≡ Ok (key (codes "a_1") ∷ cell 0 ∷ last 0 ∷ last 3 ∷ key (codes "$") ∷ []) }
+    ensures legs { read_path (codes "$.a_1[0][last][last-3].$")
+        ≡ Ok (key (codes "a_1") ∷ cell 0 ∷ last 0 ∷ last 3 ∷ key (codes "$") ∷ []) }
     ensures zeros { read_path (codes "$[0000000007]") ≡ Ok (cell 7 ∷ []) }
-    ensures bare { path_text (key (codes "a_1") ∷ cell 10 ∷ last 0 ∷ last 3 ∷ []) ≡ codes "$.a_1[10][last][last-3]" }
+    ensures bare { path_text (key (codes "a_1") ∷ cell 10 ∷ last 0 ∷ last 3 ∷ [])
+        ≡ codes "$.a_1[10][last][last-3]" }
     ensures quoted { path_text (key (codes "1 a") ∷ key [] ∷ []) ≡ codes "$.\"1 a\".\"\"" }
 {}
 

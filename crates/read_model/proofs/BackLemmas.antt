@@ -6,6 +6,7 @@ use Rattle.store_model.specs.Runs.{all_laid}
 use Rattle.read_model.specs.Patches.{Entry, runs, back, AreAtSamePlaces, AreMadeOn}
 use Rattle.read_model.proofs.PatchLemmas.{bytes_under, laid_bytes, laid_page, laid_at, bytes_again, bytes_covered, bytes_length, IsMix, mix_under, mix_same, mix_standing}
 
+-- parts of the same page, the same place in it and the same bytes are equal
 pub part_equal : (a b : Part) → a.page ≡ b.page → a.at ≡ b.at → a.bytes ≡ b.bytes → a ≡ b
 part_equal a b p q r = rw (p, q, r) refl
 

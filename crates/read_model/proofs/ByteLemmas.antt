@@ -98,6 +98,7 @@ found_in sees row (c ∷ cs) chain seen = by_test (sees row.trx) refl (found_in 
       walk = (is, chain.0.roll, rest.walk);
     }
 
+-- in a whole chain whose oldest row the view sees, there is a row that it sees of the document
 pub visible_in : (sees : Sees) (store : Store) (d : ℕ) → IsChain (row_before store d) (changes store d) → sees (base_of (row_before store d) (changes store d)).trx ≡ true
     → (above : List Entry) × (older : List Entry) × (v : Row) × IsVisible sees (document store d) above older v
 visible_in sees store d chain seen = let f = found_in sees (row_before store d) (changes store d) chain seen in (f.above, f.older, f.v, record { records = f.records; walk = f.walk })

@@ -16,6 +16,7 @@ use Rattle.read_model.proofs.EventLemmas.{true_same}
 
 -- ---- a search
 
+-- the greater of two numbers isn't at most the smaller
 pub not_le : (m n : ℕ) → n < m → nat_le m n ≡ false
 not_le m n h = by_case (nat_le m n) refl
   where
@@ -43,6 +44,7 @@ stands_there v a b (x ∷ xs) (inr later) more = by_case (same_place x.place a) 
     by_case true more on = more
     by_case false more on = inr (later.0, on more)
 
+-- from where a search stands right, the same version is found as from the piece's head
 pub search_finds : (v : ℕ) (node : Option Address) (piece : Piece) → IsSearch v node piece → version_at (versions_from node piece) v ≡ piece_at piece v
 search_finds v None piece search = refl
 search_finds v (Some a) piece search = from_there v a (piece.head ∷ piece.older) search
@@ -77,6 +79,7 @@ look_at (suc n) v x (y ∷ ys) h = by_case (nat_le y.number v) h (λ k. look_at 
     by_case true k rest = ap (λ (z : Version). Some z) (at_same y x k)
     by_case false k rest = rest k
 
+-- a look that isn't at its end goes on at a node where the search stands right
 pub look_more : (n v : ℕ) (a : Address) (xs : List Version) → look n v xs ≡ More a → Stands v a xs
 look_more zero v a [] h = absurd (gone_more h)
   where
@@ -131,6 +134,7 @@ whole_copied es v (c ∷ cs) (s ∷ ss) [] first whole left = absurd (nil_cons w
     nil_cons z = cc
 whole_copied es v (c ∷ cs) (s ∷ ss) (p ∷ ps) first whole left = cons first.0 (whole_copied es v cs ss ps first.1 (tails _ _ _ _ whole) left)
 
+-- with one piece more copied, those behind the next one are left
 pub drop_on : (cs : List Part) (c : Part) (pieces more : List Piece) (piece : Piece) → drop (length cs) pieces ≡ piece ∷ more → drop (length (cs ++ c ∷ [])) pieces ≡ more
 drop_on [] c pieces more piece left = ap (drop 1) left
 drop_on (d ∷ ds) c [] more piece left = absurd (nil_cons left)
@@ -209,5 +213,6 @@ copy_from_kept : (sees : Sees) (doc : Document) (shown : List Part) (f : Flight)
 copy_from_kept sees doc shown f [] is c left = walking_kept sees doc shown f c left
 copy_from_kept sees doc shown f (piece ∷ more) is c left = looked_kept sees doc shown f piece more _ is c left refl
 
+-- a copying step leaves the read as it must be
 pub copy_kept : (sees : Sees) (doc : Document) (shown : List Part) (f : Flight) → f.phase ≡ Pieces → IsCopying sees doc shown f → IsFlight sees doc (Some shown) (copy doc f)
 copy_kept sees doc shown f is c = copy_from_kept sees doc shown f _ is c refl

@@ -73,6 +73,7 @@ added_in Unpatch sees old new e shown f a c = (
 added_in Ready sees old new e shown f a c = c
 added_in Absent sees old new e shown f a c = c
 
+-- a read stays as it must be where a transaction that its view doesn't see changes the row
 pub kept_where_added : (sees : Sees) (old new : Document) (e : Entry) (shown : Option (List Part)) (f : Flight) → Adds sees old new e → IsFlight sees old shown f → IsFlight sees new shown f
 kept_where_added sees old new e shown f a kept = added_in f.phase sees old new e shown f a kept
 
@@ -173,6 +174,7 @@ visible_same sees old new above older v row records visible = (
 
 -- ---- LOBs alone change
 
+-- a read stays as it must be where LOBs alone are touched
 pub kept_where_touched : (sees : Sees) (old new : Document) (shown : Option (List Part)) (f : Flight) → Touches sees old new → IsFlight sees old shown f → IsFlight sees new shown f
 kept_where_touched sees old new shown f t kept =
     kept_in f.phase sees old new IsSame shown f f.node (record {
@@ -184,6 +186,7 @@ kept_where_touched sees old new shown f t kept =
 
 -- ---- purge goes past records
 
+-- a read stays as it must be where purge goes past records
 pub kept_where_passed : (sees : Sees) (old new : Document) (shown : Option (List Part)) (f : Flight) → Passes sees old new → IsFlight sees old shown f → IsFlight sees new shown f
 kept_where_passed sees old new shown f p kept =
     kept_in f.phase sees old new IsSame shown f f.node (record {
@@ -198,16 +201,20 @@ kept_where_passed sees old new shown f p kept =
 pub address_equal : (a b : Address) → a.page ≡ b.page → a.at ≡ b.at → a ≡ b
 address_equal a b p q = rw (p, q) refl
 
+-- addresses that pass the test are equal
 pub same_true : (a b : Address) → same_place a b ≡ true → a ≡ b
 same_true a b h = address_equal a b (grind (arith, h)) (grind (arith, h))
 
+-- equal addresses pass the test
 pub true_same : (a b : Address) → a ≡ b → same_place a b ≡ true
 true_same a b h = rw h (search rules)
 
+-- a pointer that passes the test leads to that address
 pub leads_true : (n : Option Address) (a : Address) → leads_to n a ≡ true → n ≡ Some a
 leads_true None a h = absurd (false≢true h)
 leads_true (Some b) a h = ap (λ (x : Address). Some x) (same_true b a h)
 
+-- a pointer to an address passes the test
 pub true_leads : (n : Option Address) (a : Address) → n ≡ Some a → leads_to n a ≡ true
 true_leads n a h = rw h (true_same a a refl)
 
@@ -231,6 +238,7 @@ freed_by sees old new node head shown f true is k kept =
 freed_by sees old new node head shown f false is k kept =
     kept_in f.phase sees old new (IsMoved node head) shown f f.node k (λ xs ys each search. search_on node head f.row.lob.version f.node xs ys is each search) kept
 
+-- a read stays as it must be where a node is freed, and it goes on from the head if it stood there
 pub kept_where_freed : (sees : Sees) (old new : Document) (node head : Address) (shown : Option (List Part)) (f : Flight) → Frees sees old new node head
     → IsFlight sees old shown f → IsFlight sees new shown (moved node head f)
 kept_where_freed sees old new node head shown f t kept =

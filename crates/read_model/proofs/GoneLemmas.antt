@@ -85,6 +85,7 @@ forgotten_in Unpatch sees old new e shown row cursor at copied r c = absurd (not
 forgotten_in Ready sees old new e shown row cursor at copied r c = c
 forgotten_in Absent sees old new e shown row cursor at copied r c = c
 
+-- a read stays as it must be where a record is undone, no row is left, and it is handed on
 pub kept_where_forgotten : (sees : Sees) (old new : Document) (e : Entry) (shown : Option (List Part)) (f : Flight) → Forgets sees old new e → IsFlight sees old shown f
     → IsFlight sees new shown (hand_on e.0 e.1 f)
 kept_where_forgotten sees old new e shown f r kept = forgotten_in f.phase sees old new e shown f.row f.cursor f.node f.copied r kept
@@ -110,5 +111,6 @@ swept_in Unpatch sees old new shown f r c = absurd (swept_live sees old new (c.2
 swept_in Ready sees old new shown f r c = c
 swept_in Absent sees old new shown f r c = c
 
+-- a read stays as it must be where a deleted row is purged
 pub kept_where_swept : (sees : Sees) (old new : Document) (shown : Option (List Part)) (f : Flight) → Sweeps sees old new → IsFlight sees old shown f → IsFlight sees new shown f
 kept_where_swept sees old new shown f r kept = swept_in f.phase sees old new shown f r kept

@@ -18,6 +18,7 @@ use Rattle.read_model.proofs.PieceLemmas.{push_same, pop_moved, other_moved, dro
 other_same : (v : ℕ) (xs ys : List Piece) → ys ≡ xs → EachPiece (IsSame v) xs ys
 other_same v xs ys e = subst (EachPiece (IsSame v) xs) (sym e) (each_same v xs)
 
+-- a LOB that is given another version number keeps its pieces as they are, and so do the others
 pub version_same : (page n : ℕ) (lobs : List Lob) (q v : ℕ) → EachPiece (IsSame v) (pieces_at lobs q) (pieces_at (on_lob page (at_version n) lobs) q)
 version_same page n lobs q v = on_any (IsSame v) page (at_version n) lobs q (λ l. refl) (λ here l is. each_same v l.pieces) (λ other. each_same v (pieces_at lobs q))
 
@@ -121,21 +122,25 @@ undo_kept sees doc e rest f unseen records other none same = record {
       (same_put_back v.lob.version _ _ (same above older v visible is));
 }
 
+-- an insert, or a new encoding, is undone: its LOB goes, which the view doesn't see
 pub lob_undone : (sees : Sees) (doc : Document) (e : Entry) (rest : List Entry) (page : ℕ) → sees doc.row.trx ≡ false → doc.records ≡ e ∷ rest → IsOther e.0 rest → runs e ≡ []
     → IsElsewhere sees doc page → Removes sees doc (without_change e rest (without_lob page) doc) e
 lob_undone sees doc e rest page unseen records other none elsewhere = undo_kept sees doc e rest (without_lob page) unseen records other none
     (λ above older v visible is. other_same v.lob.version _ _ (without_other page doc.lobs v.lob.page (elsewhere above older v visible is)))
 
+-- a new version is undone: its LOB is given another version number
 pub version_undone : (sees : Sees) (doc : Document) (e : Entry) (rest : List Entry) (page n : ℕ) → sees doc.row.trx ≡ false → doc.records ≡ e ∷ rest → IsOther e.0 rest → runs e ≡ []
     → Removes sees doc (without_change e rest (on_lob page (at_version n)) doc) e
 version_undone sees doc e rest page n unseen records other none = undo_kept sees doc e rest (on_lob page (at_version n)) unseen records other none
     (λ above older v visible is. version_same page n doc.lobs v.lob.page v.lob.version)
 
+-- a deletion is undone: LOBs stay
 pub delete_undone : (sees : Sees) (doc : Document) (e : Entry) (rest : List Entry) → sees doc.row.trx ≡ false → doc.records ≡ e ∷ rest → IsOther e.0 rest → runs e ≡ []
     → Removes sees doc (without_change e rest (λ ls. ls) doc) e
 delete_undone sees doc e rest unseen records other none = undo_kept sees doc e rest (λ ls. ls) unseen records other none
     (λ above older v visible is. each_same v.lob.version (pieces_at doc.lobs v.lob.page))
 
+-- a change in place is undone: the record's old bytes are put back in all LOBs
 pub patch_undone : (sees : Sees) (doc : Document) (e : Entry) (rest : List Entry) → sees doc.row.trx ≡ false → doc.records ≡ e ∷ rest → IsOther e.0 rest
     → Removes sees doc (without_change e rest (lobs_laid (runs e)) doc) e
 patch_undone sees doc e rest unseen records other = record {

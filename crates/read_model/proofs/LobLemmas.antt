@@ -21,6 +21,7 @@ use Rattle.read_model.proofs.VisibleLemmas.{heads, tails}
 laid_part : (rs : List Run) (x : Version) → part_of (version_laid rs x) ≡ all_laid rs (part_of x)
 laid_part rs x = part_equal _ _ (sym (laid_page rs (part_of x))) (sym (laid_at rs (part_of x))) refl
 
+-- runs leave the part of no version
 pub laid_none : (rs : List Run) → all_laid rs (part_or None) ≡ part_or None
 laid_none [] = refl
 laid_none (r ∷ rs) = ap (all_laid rs) (part_equal (laid r (part_or None)) (part_or None) refl refl (by_case (0 == r.page))) ∙ laid_none rs
@@ -100,6 +101,7 @@ back_in_lobs old new lobs page v back =
 
 -- ---- the same pieces
 
+-- pieces are the same as themselves, at any version
 pub each_same : (v : ℕ) (ps : List Piece) → EachPiece (IsSame v) ps ps
 each_same v [] = tt
 each_same v (p ∷ ps) = (record { part = refl; search = λ a stands. stands }, each_same v ps)
@@ -107,12 +109,14 @@ each_same v (p ∷ ps) = (record { part = refl; search = λ a stands. stands }, 
 laid_nothing : (x : Part) → all_laid [] x ≡ x
 laid_nothing x = refl
 
+-- pieces that stay the same at a version lead back by no runs
 pub same_leads : (v : ℕ) (xs ys : List Piece) → EachPiece (IsSame v) xs ys → EachPiece (LeadsBack [] v) xs ys
 same_leads v [] [] each = tt
 same_leads v [] (y ∷ ys) each = absurd each
 same_leads v (x ∷ xs) [] each = absurd each
 same_leads v (x ∷ xs) (y ∷ ys) each = (record { part = each.0.part; search = each.0.search }, same_leads v xs ys each.1)
 
+-- pieces that stay the same at a version have no runs put back
 pub same_put_back : (v : ℕ) (xs ys : List Piece) → EachPiece (IsSame v) xs ys → EachPiece (IsPutBack [] v) xs ys
 same_put_back v [] [] each = tt
 same_put_back v [] (y ∷ ys) each = absurd each
@@ -140,6 +144,7 @@ other_page : (n page : ℕ) → n ≢ page → (b : Bool) → (n == page) ≡ b 
 other_page n page other true is = absurd (other (eqb-true n page is))
 other_page n page other false is = refl
 
+-- a change of one LOB leaves the pieces of another
 pub on_other : (q : ℕ) (f : Lob → Lob) (lobs : List Lob) (page : ℕ) → ((l : Lob) → (f l).page ≡ l.page) → page ≢ q → pieces_at (on_lob q f lobs) page ≡ pieces_at lobs page
 on_other q f [] page stays other = refl
 on_other q f (l ∷ ls) page stays other = by_case (l.page == q) refl (on_other q f ls page stays other)
@@ -157,6 +162,7 @@ on_other q f (l ∷ ls) page stays other = by_case (l.page == q) refl (on_other 
         by_page true rest = refl
         by_page false rest = rest
 
+-- a LOB taken out leaves the pieces of another
 pub without_other : (q : ℕ) (lobs : List Lob) (page : ℕ) → page ≢ q → pieces_at (without_lob q lobs) page ≡ pieces_at lobs page
 without_other q [] page other = refl
 without_other q (l ∷ ls) page other = by_case (l.page == q) refl (without_other q ls page other)
@@ -174,6 +180,7 @@ without_other q (l ∷ ls) page other = by_case (l.page == q) refl (without_othe
         by_page true rest = refl
         by_page false rest = rest
 
+-- a LOB more leaves the pieces of another
 pub with_other : (l : Lob) (lobs : List Lob) (page : ℕ) → page ≢ l.page → pieces_at (lobs ++ l ∷ []) page ≡ pieces_at lobs page
 with_other l [] page other = rw (other_page l.page page (λ e. other (sym e)) (l.page == page) refl) refl
 with_other l (x ∷ xs) page other = by_case (x.page == page) (with_other l xs page other)

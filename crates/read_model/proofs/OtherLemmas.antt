@@ -25,12 +25,14 @@ begun_log_same trx page store d = refl
 first_same : (f : Log → Log) (store : Store) (d : ℕ) → ((l : Log) → (f l).records ≡ l.records) → ((l : Log) → (f l).trx ≡ l.trx) → document (on_oldest f store) d ≡ document store d
 first_same f store d r t = same_document _ _ refl (ap (λ (cs : List Change). map entry (active_changes d store.active ++ cs)) (changes-first d f store.committed r t)) refl
 
+-- a purge that begins leaves every document
 pub begun_purge_same : (store : Store) (d : ℕ) → document (purge_begun store) d ≡ document store d
 begun_purge_same store d = first_same _ store d (λ l. refl) (λ l. refl)
 
 pub left_pages_same : (pages : List ℕ) (store : Store) (d : ℕ) → document (log_pages_left pages store) d ≡ document store d
 left_pages_same pages store d = first_same _ store d (λ l. refl) (λ l. refl)
 
+-- a log without records that is purged leaves every document
 pub purged_log_same : (store : Store) (d : ℕ) (l : Log) (ls : List Log) → store.committed ≡ l ∷ ls → l.records ≡ [] → document (log_purged store) d ≡ document store d
 purged_log_same store d l ls first none = same_document _ _ refl (ap (λ (cs : List Change). map entry (active_changes d store.active ++ cs))
     (ap (λ (ms : List Log). committed_changes d (all_but_first ms)) first
@@ -39,6 +41,7 @@ purged_log_same store d l ls first none = same_document _ _ refl (ap (λ (cs : L
 
 -- ---- purge of another document's record
 
+-- the purge of a record leaves other documents, but for what it does to LOBs
 pub passed_others : (a : Address) (u : Record) (store : Store) (l : Log) (ls : List Log) (d : ℕ) → store.committed ≡ l ∷ ls → last_in l.records ≡ (a, u) ∷ [] → d ≢ u.doc
     → document (record_passed a l.trx u store) d ≡ doc_lobs (cleared u.body u.before) (document store d)
 passed_others a u store l ls d first oldest other = same_document _ _
@@ -69,6 +72,7 @@ pops v n node head zero (p ∷ ps) below at = (
 )
 pops v n node head (suc k) (p ∷ ps) below at = (at.0, pops v n node head k ps below at.1)
 
+-- in a whole chain, the version of the newest change may be popped under views that don't see it
 pub pop_well : (sees : Sees) (store : Store) (d k : ℕ) (node head : Address) (c : Change) (cs : List Change) (pieces : ℕ) (touched : List ℕ) → changes store d ≡ c ∷ cs
     → IsChain (row_before store d) (changes store d) → c.undo.body ≡ versioned pieces touched → sees c.trx ≡ false
     → AtOne k (IsPushed (suc c.undo.before.lob.version) node head) (HasNoNode node) (pieces_at store.lobs c.undo.before.lob.page)

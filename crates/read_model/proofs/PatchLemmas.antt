@@ -12,6 +12,7 @@ pub byte_under : List Run → ℕ → ℕ → ℕ → ℕ
 byte_under [] page place x = x
 byte_under (r ∷ rs) page place x = byte_under rs page place (cond (page == r.page) (byte_laid r place x) x)
 
+-- bytes from a place of a page on, as runs laid over them leave them
 pub bytes_under : List Run → ℕ → ℕ → List ℕ → List ℕ
 bytes_under rs page place [] = []
 bytes_under rs page place (x ∷ xs) = byte_under rs page place x ∷ bytes_under rs page (suc place) xs
@@ -29,14 +30,17 @@ unfolding byte_under bytes_under
 none_under page place [] = refl
 none_under page place (x ∷ xs) = ap (λ (cs : List ℕ). x ∷ cs) (none_under page (suc place) xs)
 
+-- a part under runs has its bytes as the runs leave them at its page and place
 pub laid_bytes : (rs : List Run) (x : Part) → (all_laid rs x).bytes ≡ bytes_under rs x.page x.at x.bytes
 laid_bytes [] x = sym (none_under x.page x.at x.bytes)
 laid_bytes (r ∷ rs) x = laid_bytes rs (laid r x) ∙ sym (one_under (x.page == r.page) r rs x.page x.at x.bytes refl)
 
+-- runs leave a part's page
 pub laid_page : (rs : List Run) (x : Part) → (all_laid rs x).page ≡ x.page
 laid_page [] x = refl
 laid_page (r ∷ rs) x = laid_page rs (laid r x)
 
+-- runs leave a part's place in its page
 pub laid_at : (rs : List Run) (x : Part) → (all_laid rs x).at ≡ x.at
 laid_at [] x = refl
 laid_at (r ∷ rs) x = laid_at rs (laid r x)
@@ -114,16 +118,19 @@ covered ps qs page place x same = elim (left_or_one ps qs page place x same) [
 
 -- ---- bytes
 
+-- runs laid over bytes a second time change nothing
 pub bytes_again : (rs : List Run) (page place : ℕ) (xs : List ℕ) → bytes_under rs page place (bytes_under rs page place xs) ≡ bytes_under rs page place xs
 unfolding bytes_under
 bytes_again rs page place [] = refl
 bytes_again rs page place (x ∷ xs) = ap₂ (λ (c : ℕ) (cs : List ℕ). c ∷ cs) (again rs page place x) (bytes_again rs page (suc place) xs)
 
+-- runs laid over others at the same places leave what they do without these
 pub bytes_covered : (ps qs : List Run) (page place : ℕ) (xs : List ℕ) → AreAtSamePlaces ps qs → bytes_under ps page place (bytes_under qs page place xs) ≡ bytes_under ps page place xs
 unfolding bytes_under
 bytes_covered ps qs page place [] same = refl
 bytes_covered ps qs page place (x ∷ xs) same = ap₂ (λ (c : ℕ) (cs : List ℕ). c ∷ cs) (covered ps qs page place x same) (bytes_covered ps qs page (suc place) xs same)
 
+-- runs leave the number of bytes
 pub bytes_length : (rs : List Run) (page place : ℕ) (xs : List ℕ) → length (bytes_under rs page place xs) ≡ length xs
 unfolding bytes_under
 bytes_length rs page place [] = refl
@@ -138,6 +145,7 @@ IsMix (a ∷ us) [] cs = ⊥
 IsMix (a ∷ us) (b ∷ bs) [] = ⊥
 IsMix (a ∷ us) (b ∷ bs) (c ∷ cs) = ((c ≡ a) ⊎ (c ≡ b)) × IsMix us bs cs
 
+-- runs laid over two lists of bytes and over a mix of them leave a mix of the two
 pub mix_under : (rs : List Run) (page place : ℕ) (us bs cs : List ℕ) → IsMix us bs cs
     → IsMix (bytes_under rs page place us) (bytes_under rs page place bs) (bytes_under rs page place cs)
 unfolding IsMix bytes_under
@@ -162,6 +170,7 @@ rest : List ℕ → List ℕ
 rest [] = []
 rest (x ∷ xs) = xs
 
+-- a mix of two equal lists of bytes is the second of them
 pub mix_same : (us bs cs : List ℕ) → us ≡ bs → IsMix us bs cs → cs ≡ bs
 unfolding IsMix first rest
 mix_same [] [] [] e mix = refl

@@ -16,6 +16,7 @@ use Rattle.read_model.proofs.LobLemmas.{on_other}
 
 -- ---- push
 
+-- a push of a version above v leaves the piece at version v
 pub push_same : (v : ℕ) (node : Address) (x : Version) (p : Piece) → v < x.number → IsSame v p (pushed node x p)
 push_same v node x p newer = record {
   part = rw (not_le x.number v newer) (by_case (nat_le p.head.number v));
@@ -49,6 +50,7 @@ pop_one v head first rest newer = record {
     by_case true = refl
     by_case false = refl
 
+-- a pop above v leaves the piece at version v; a search at the freed node goes on from the head
 pub pop_moved : (v : ℕ) (node head : Address) (p : Piece) → PopsFrom v node head p → IsMoved node head v p (popped p)
 pop_moved v node head p f =
     subst (λ (a : Address). IsMoved a head v p (popped p)) f.node_is
@@ -61,6 +63,7 @@ no_stand v node [] none stands = stands
 no_stand v node (x ∷ xs) none (inl here) = none.0 here
 no_stand v node (x ∷ xs) none (inr later) = no_stand v node xs none.1 later.1
 
+-- a piece that hasn't the freed node is left as it is
 pub other_moved : (v : ℕ) (node head : Address) (p : Piece) → HasNoNode node p → IsMoved node head v p p
 other_moved v node head p none = record {
   part = refl;
@@ -97,6 +100,7 @@ drop_stands v a x (y ∷ []) (inr none) (inr later) = absurd none
 drop_stands v a x (y ∷ z ∷ zs) (inl here) (inr later) = let no_way : ⊥ = omega (arith, here, later.0) in absurd no_way
 drop_stands v a x (y ∷ z ∷ zs) (inr more) (inr later) = inr (later.0, drop_stands v a y (z ∷ zs) more later.1)
 
+-- a drop leaves the piece at version v, where an entry that is at most v is left
 pub drop_same : (v : ℕ) (p : Piece) → MayDrop v p → IsSame v p (dropped p)
 drop_same v p may = record {
   part = ap part_or (drop_at v p.head p.older may);
@@ -105,6 +109,8 @@ drop_same v p may = record {
 
 -- ---- one piece of a LOB
 
+-- a change of the k-th piece relates each piece to its own, where it does so at that one and the
+-- others are related to themselves
 pub each_at : (P : Piece → Piece → Type 0) (Q R : Piece → Type 0) (f : Piece → Piece) (k : ℕ) (ps : List Piece) → ((p : Piece) → Q p → P p (f p)) → ((p : Piece) → R p → P p p)
     → AtOne k Q R ps → EachPiece P ps (on_piece k f ps)
 each_at P Q R f k [] on same one = tt
@@ -127,6 +133,8 @@ on_here P q f (l ∷ ls) stays each = by_case (l.page == q) refl (λ on. on_here
     by_case true is rest = subst (EachPiece P l.pieces) (sym (rw (stays l, is) refl)) (each l (rw is refl))
     by_case false is rest = subst (EachPiece P (pieces_at ls q)) (sym (rw is refl)) (rest (λ x same. each x (rw is same)))
 
+-- a change of one LOB relates the pieces of any LOB, where it does so in its own and
+-- those of others are related to themselves
 pub on_any : (P : Piece → Piece → Type 0) (q : ℕ) (f : Lob → Lob) (lobs : List Lob) (page : ℕ) → ((l : Lob) → (f l).page ≡ l.page)
     → (page ≡ q → (l : Lob) → pieces_at lobs page ≡ l.pieces → EachPiece P l.pieces (f l).pieces)
     → (page ≢ q → EachPiece P (pieces_at lobs page) (pieces_at lobs page))

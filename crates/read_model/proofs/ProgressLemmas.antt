@@ -210,6 +210,7 @@ step_lower Unpatch sees doc shown row cursor at copied under distinct there c = 
 step_lower Ready sees doc shown row cursor at copied under distinct there c = absurd under
 step_lower Absent sees doc shown row cursor at copied under distinct there c = absurd under
 
+-- an event of a read under way brings it to a later phase, or leaves less in the same one
 pub event_lower : (sees : Sees) (doc : Document) (shown : Option (List Part)) (f : Flight) → IsUnderWay f.phase → AreDistinct doc.records
     → AreThere f.row.lob.version (pieces_at doc.lobs f.row.lob.page) → IsFlight sees doc shown f → IsLower doc (event_of_read sees doc f) f
 event_lower sees doc shown f under distinct there kept =

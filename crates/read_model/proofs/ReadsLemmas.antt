@@ -54,6 +54,7 @@ planned_read old new d e r adds touches kept = elim (eqb_tells r.doc d) [
   | inr other ↦ kept_where_touched r.sees (document old r.doc) (document new r.doc) r.shown r.flight (touches other.1) kept
 ]
 
+-- a change in place keeps all reads that don't see it, where no other document has these bytes
 pub reads_patched : (p : Plan) (old new : List Run) (store : Store) (rs : List Read) → MayChange p store → lobs_laid old (lobs_laid new store.lobs) ≡ store.lobs
     → ((d : ℕ) → d ≢ p.doc → AllRows (IsUntouched new store.lobs) store d) → MaySee (λ r. r.sees p.trx ≡ false) rs → AreReads store rs → AreReads (patch_made p old new store) rs
 reads_patched p old new store rs may back apart unseen reads =
@@ -61,6 +62,7 @@ reads_patched p old new store rs may back apart unseen reads =
     (λ r u kept. planned_read store (patch_made p old new store) p.doc _ r (patch_adds r.sees p old new store may u back)
     (λ other. patch_touches r.sees p old new store r.doc other (apart r.doc other)) kept) unseen reads
 
+-- an insert begun keeps all reads that don't see it, where no row has the new LOB
 pub reads_inserted : (p : Plan) (lob : Lob) (n : ℕ) (store : Store) (rs : List Read) → MayChange p store → ((d : ℕ) → AllRows (IsElsewhere lob.page) store d)
     → MaySee (λ r. r.sees p.trx ≡ false) rs → AreReads store rs → AreReads (insert_begun p lob n store) rs
 reads_inserted p lob n store rs may apart unseen reads =
@@ -68,6 +70,7 @@ reads_inserted p lob n store rs may apart unseen reads =
     (λ r u kept. planned_read store (insert_begun p lob n store) p.doc _ r (insert_adds r.sees p lob n store may u (apart p.doc))
     (λ other. insert_touches r.sees p lob n store r.doc other (apart r.doc)) kept) unseen reads
 
+-- the same of a new encoding
 pub reads_rebuilt : (p : Plan) (lob : Lob) (n : ℕ) (store : Store) (rs : List Read) → MayChange p store → ((d : ℕ) → AllRows (IsElsewhere lob.page) store d)
     → MaySee (λ r. r.sees p.trx ≡ false) rs → AreReads store rs → AreReads (rebuild_begun p lob n store) rs
 reads_rebuilt p lob n store rs may apart unseen reads =
@@ -75,6 +78,7 @@ reads_rebuilt p lob n store rs may apart unseen reads =
     (λ r u kept. planned_read store (rebuild_begun p lob n store) p.doc _ r (rebuild_adds r.sees p lob n store may u (apart p.doc))
     (λ other. rebuild_touches r.sees p lob n store r.doc other (apart r.doc)) kept) unseen reads
 
+-- a raised version keeps all reads that don't see it
 pub reads_raised : (p : Plan) (pieces : ℕ) (touched : List ℕ) (store : Store) (rs : List Read) → MayChange p store
     → MaySee (λ r. r.sees p.trx ≡ false) rs → AreReads store rs → AreReads (version_begun p pieces touched store) rs
 reads_raised p pieces touched store rs may unseen reads =
@@ -82,6 +86,7 @@ reads_raised p pieces touched store rs may unseen reads =
     (λ r u kept. planned_read store (version_begun p pieces touched store) p.doc _ r (version_adds r.sees p pieces touched store may u)
     (λ other. version_touches r.sees p pieces touched store r.doc other) kept) unseen reads
 
+-- a deletion keeps all reads that don't see it
 pub reads_deleted : (p : Plan) (store : Store) (rs : List Read) → MayChange p store → MaySee (λ r. r.sees p.trx ≡ false) rs → AreReads store rs → AreReads (delete_made p store) rs
 reads_deleted p store rs may unseen reads =
     each_as_it_is store (delete_made p store) (λ r. r.sees p.trx ≡ false) rs
@@ -120,6 +125,7 @@ undone_read trx place u store r false is newest chain other apart unseen zero_se
     same_doc : r.doc ≡ u.doc → (r.doc == u.doc) ≡ true
     same_doc e = grind (arith, e)
 
+-- the end of an undoing keeps all reads that don't see the transaction, with the record handed on
 pub reads_undone : (trx : ℕ) (place : Address) (u : Record) (store : Store) (rs : List Read) → IsNewest trx place u store → IsChain (row_before store u.doc) (changes store u.doc)
     → IsOther place (map entry (changes (without_newest trx u store) u.doc)) → ((d : ℕ) → d ≢ u.doc → OthersElsewhere u.body store d)
     → MaySee (λ r. (r.sees trx ≡ false) × (r.sees 0 ≡ true) × (is_gone (without_newest trx u store) u.before.state u.before ≡ true → r.sees u.before.trx ≡ true)) rs
@@ -131,6 +137,7 @@ reads_undone trx place u store rs newest chain other apart may reads =
 
 -- ---- a commit
 
+-- a commit keeps all reads
 pub reads_committed : (trx : ℕ) (store : Store) (rs : List Read) → ((d : ℕ) → IsLocked d store.active) → AreReads store rs → AreReads (committed_by trx store) rs
 reads_committed trx store rs locked reads =
     each_as_it_is store (committed_by trx store) (λ r. Unit {0}) rs
@@ -157,6 +164,7 @@ passed_read a u store l ls r first oldest chain distinct apart known zero_seen k
       (pass_touches r.sees a u store l ls r.doc first oldest other.1 (apart other.1)) kept
 ]
 
+-- the purge of a record keeps all reads that see its transaction
 pub reads_passed : (a : Address) (u : Record) (store : Store) (l : Log) (ls : List Log) (rs : List Read) → store.committed ≡ l ∷ ls → last_in l.records ≡ (a, u) ∷ []
     → IsChain (row_before store u.doc) (changes store u.doc) → AreDistinct (map entry (changes store u.doc)) → ((d : ℕ) → d ≢ u.doc → FreesBefore u.body → AllRows (IsElsewhere u.before.lob.page) store d)
     → MaySee (λ r. (r.sees l.trx ≡ true) × (r.sees 0 ≡ true)) rs → AreReads store rs → AreReads (record_passed a l.trx u store) rs
@@ -166,11 +174,13 @@ reads_passed a u store l ls rs first oldest chain distinct apart may reads =
 
 -- ---- LOBs alone change, or a node is freed
 
+-- an event keeps all reads where it touches LOBs alone of each read's document
 pub reads_touched : (old new : Store) (rs : List Read) → MaySee (λ r. Touches r.sees (document old r.doc) (document new r.doc)) rs → AreReads old rs → AreReads new rs
 reads_touched old new rs may reads =
     each_as_it_is old new (λ r. Touches r.sees (document old r.doc) (document new r.doc)) rs
     (λ r t kept. kept_where_touched r.sees (document old r.doc) (document new r.doc) r.shown r.flight t kept) may reads
 
+-- where it frees a node, it keeps all reads, and those at the node go on from the head
 pub reads_freed : (old new : Store) (node head : Address) (rs : List Read) → MaySee (λ r. Frees r.sees (document old r.doc) (document new r.doc) node head) rs
     → AreReads old rs → AreReads new (map (shifted node head) rs)
 reads_freed old new node head rs may reads =

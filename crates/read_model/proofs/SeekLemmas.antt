@@ -15,6 +15,7 @@ use Rattle.read_model.proofs.EventLemmas.{true_same, same_true}
 
 -- ---- a record is found at its address
 
+-- among records at different addresses each is found by its own
 pub record_found : (newer : List Entry) (e : Entry) (older : List Entry) → AreDistinct (newer ++ (e ∷ older)) → record_at (newer ++ (e ∷ older)) e.0 ≡ Some e.1
 record_found [] e older distinct = rw (true_same e.0 e.0 refl) refl
 record_found (x ∷ xs) e older distinct = by_case (same_place x.0 e.0) refl (record_found xs e older distinct.1)
@@ -27,6 +28,7 @@ record_found (x ∷ xs) e older distinct = by_case (same_place x.0 e.0) refl (re
     by_case true is rest = absurd (in_there xs distinct.0 (sym (same_true x.0 e.0 is)))
     by_case false is rest = rest
 
+-- the row behind some records is the one that the last of them has as the row before
 pub behind_last : (row : Row) (passed : List Entry) (e : Entry) → row_behind row (passed ++ (e ∷ [])) ≡ e.1.before
 behind_last row [] e = refl
 behind_last row (x ∷ xs) e = behind_last x.1.before xs e
@@ -58,10 +60,12 @@ arrived_kept sees doc shown above older v visible holds = arrived_in sees doc sh
 
 -- ---- seeking
 
+-- a seek arrives at a row that the view sees
 pub seek_seen : (n : ℕ) (sees : Sees) (doc : Document) (row : Row) → sees row.trx ≡ true → seek n sees doc row ≡ arrived row
 seek_seen zero sees doc row seen = rw seen refl
 seek_seen (suc n) sees doc row seen = rw seen refl
 
+-- a seek from a row at or above the visible one leaves the read as it must be
 pub seek_kept : (n : ℕ) (sees : Sees) (doc : Document) (shown : Option (List Part)) (passed rest older : List Entry) (v row : Row) → AreDistinct doc.records
     → IsVisible sees doc (passed ++ rest) older v → content doc.lobs v (passed ++ rest) ≡ shown → row ≡ row_behind doc.row passed
     → IsFlight sees doc shown (seek n sees doc row)

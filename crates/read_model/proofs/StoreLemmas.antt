@@ -25,6 +25,7 @@ use Rattle.read_model.proofs.KindLemmas.{lob_begun, version_raised, row_deleted,
 
 -- ---- rows of the chain
 
+-- what holds of a row and of those behind it holds of the row that the view sees
 pub rows_so : (P : Row → Type 0) (sees : Sees) (row : Row) (above older : List Entry) (v : Row) (cs : List Change) → IsSeen sees row above v → map entry cs ≡ above ++ older
     → P row → AllBefore P cs → P v
 rows_so P sees row [] older v cs walk records here before = subst P walk.0 here
@@ -51,20 +52,25 @@ before_so P sees store d (x ∷ xs) older v unseen visible before = by_changes (
         rows_so P sees x.1.before xs older v cs visible.walk.2 (tails (entry c) x (map entry cs) (xs ++ older) records)
         (subst P (ap (λ (e : Entry). e.1.before) (heads (entry c) x (map entry cs) (xs ++ older) records)) before.0) before.1
 
+-- what holds of all rows of a document holds of the row that the view sees
 pub all_so : (P : Row → Type 0) (sees : Sees) (store : Store) (d : ℕ) (above older : List Entry) (v : Row) → IsVisible sees (document store d) above older v → AllRows P store d → P v
 all_so P sees store d above older v visible all = rows_so P sees (row_before store d) above older v (changes store d) visible.walk visible.records all.0 all.1
 
+-- where no live row of a document has a LOB, the view sees another
 pub seen_elsewhere : (sees : Sees) (store : Store) (d page : ℕ) → AllRows (IsElsewhere page) store d → SeesElsewhere sees (document store d) page
 seen_elsewhere sees store d page all above older v visible = all_so (IsElsewhere page) sees store d above older v visible all
 
+-- the same of the rows behind the newest, where the view doesn't see that one
 pub before_elsewhere : (sees : Sees) (store : Store) (d page : ℕ) → sees (row_before store d).trx ≡ false → AllBefore (IsElsewhere page) (changes store d) → SeesElsewhere sees (document store d) page
 before_elsewhere sees store d page unseen all above older v visible = before_so (IsElsewhere page) sees store d above older v unseen visible all
 
+-- where those rows have no version of a LOB from n on, the view sees an older one
 pub before_older : (sees : Sees) (store : Store) (d page n : ℕ) → sees (row_before store d).trx ≡ false → AllBefore (IsBelow page n) (changes store d) → IsOlder sees (document store d) page n
 before_older sees store d page n unseen all above older v visible = before_so (IsBelow page n) sees store d above older v unseen visible all
 
 -- ---- a change is planned
 
+-- documents of the same row, records and LOBs are equal
 pub same_document : (a b : Document) → a.row ≡ b.row → a.records ≡ b.records → a.lobs ≡ b.lobs → a ≡ b
 same_document a b p q r = rw (p, q, r) refl
 
@@ -88,6 +94,7 @@ plan_is p new body store sees unseen trx roll = record {
   before = refl;
 }
 
+-- an insert begun adds a record, for a view that doesn't see it; no row has the new LOB
 pub insert_adds : (sees : Sees) (p : Plan) (lob : Lob) (n : ℕ) (store : Store) → MayChange p store → sees p.trx ≡ false → AllRows (IsElsewhere lob.page) store p.doc
     → Adds sees (document store p.doc) (document (insert_begun p lob n store) p.doc) (p.place, record_of p (row_before store p.doc) (inserted lob.page))
 unfolding plan_entry
@@ -96,6 +103,7 @@ insert_adds sees p lob n store may unseen elsewhere =
     (lob_begun sees (document store p.doc) _ _ lob (plan_is p (new_row p lob.page n) (inserted lob.page) store sees unseen (λ row. refl) (λ row. refl)) refl
     (seen_elsewhere sees store p.doc lob.page elsewhere))
 
+-- the same of a new encoding
 pub rebuild_adds : (sees : Sees) (p : Plan) (lob : Lob) (n : ℕ) (store : Store) → MayChange p store → sees p.trx ≡ false → AllRows (IsElsewhere lob.page) store p.doc
     → Adds sees (document store p.doc) (document (rebuild_begun p lob n store) p.doc) (p.place, record_of p (row_before store p.doc) (rebuilt lob.page))
 unfolding plan_entry
@@ -104,6 +112,7 @@ rebuild_adds sees p lob n store may unseen elsewhere =
     (lob_begun sees (document store p.doc) _ _ lob (plan_is p (new_row p lob.page n) (rebuilt lob.page) store sees unseen (λ row. refl) (λ row. refl)) refl
     (seen_elsewhere sees store p.doc lob.page elsewhere))
 
+-- the same of a raised version
 pub version_adds : (sees : Sees) (p : Plan) (pieces : ℕ) (touched : List ℕ) (store : Store) → MayChange p store → sees p.trx ≡ false
     → Adds sees (document store p.doc) (document (version_begun p pieces touched store) p.doc) (p.place, record_of p (row_before store p.doc) (versioned pieces touched))
 unfolding plan_entry
@@ -113,6 +122,7 @@ version_adds sees p pieces touched store may unseen =
     (plan_document p (raised_row p) (versioned pieces touched) (on_lob before.lob.page (at_version (suc before.lob.version))) store may)
     (version_raised sees (document store p.doc) _ _ before.lob.page (suc before.lob.version) (plan_is p (raised_row p) (versioned pieces touched) store sees unseen (λ row. refl) (λ row. refl)) refl)
 
+-- the same of a change in place, whose old bytes lead back to the LOBs as they were
 pub patch_adds : (sees : Sees) (p : Plan) (old new : List Run) (store : Store) → MayChange p store → sees p.trx ≡ false → lobs_laid old (lobs_laid new store.lobs) ≡ store.lobs
     → Adds sees (document store p.doc) (document (patch_made p old new store) p.doc) (p.place, record_of p (row_before store p.doc) (patched old))
 unfolding plan_entry
@@ -120,6 +130,7 @@ patch_adds sees p old new store may unseen back =
     subst (λ (doc : Document). Adds sees (document store p.doc) doc (plan_entry p store (patched old))) (plan_document p (patched_row p) (patched old) (lobs_laid new) store may)
     (written_back sees (document store p.doc) _ _ new (plan_is p (patched_row p) (patched old) store sees unseen (λ row. refl) (λ row. refl)) back)
 
+-- the same of a deletion
 pub delete_adds : (sees : Sees) (p : Plan) (store : Store) → MayChange p store → sees p.trx ≡ false
     → Adds sees (document store p.doc) (document (delete_made p store) p.doc) (p.place, record_of p (row_before store p.doc) removed)
 unfolding plan_entry
@@ -142,6 +153,7 @@ pub undone_records : (trx : ℕ) (place : Address) (u : Record) (store : Store) 
     → (document store u.doc).records ≡ (place, u) ∷ map entry (changes (without_newest trx u store) u.doc)
 undone_records trx place u store newest = ap (map entry) (changes-popped trx place u store newest)
 
+-- the end of an undoing removes the newest record, where a row is left
 pub undo_removes : (sees : Sees) (trx : ℕ) (place : Address) (u : Record) (store : Store) → IsNewest trx place u store → sees (row_before store u.doc).trx ≡ false
     → OlderElsewhere u.body (changes store u.doc) → IsOther place (map entry (changes (without_newest trx u store) u.doc)) → is_gone (without_newest trx u store) u.before.state u.before ≡ false
     → Removes sees (document store u.doc) (document (undo_ended trx u store) u.doc) (place, u)
@@ -163,6 +175,7 @@ undo_removes sees trx place u store newest unseen elsewhere other stays =
         (patch_undone sees (document store u.doc) (place, u) rest unseen (undone_records trx place u store newest) other)
     by_body removed is elsewhere = delete_undone sees (document store u.doc) (place, u) rest unseen (undone_records trx place u store newest) other (ap old_runs is)
 
+-- where no row is left, it forgets the record, for a view that sees the row before
 pub undo_forgets : (sees : Sees) (trx : ℕ) (place : Address) (u : Record) (store : Store) → IsNewest trx place u store → sees (row_before store u.doc).trx ≡ false
     → sees u.before.trx ≡ true → sees 0 ≡ true → IsOther place (map entry (changes (without_newest trx u store) u.doc)) → is_gone (without_newest trx u store) u.before.state u.before ≡ true
     → Forgets sees (document store u.doc) (document (undo_ended trx u store) u.doc) (place, u)
@@ -199,5 +212,6 @@ pub moved_same : (trx d : ℕ) (store : Store) (o : Option Log) → log_of store
 moved_same trx d store None there locked = refl
 moved_same trx d store (Some l) there locked = same_document _ _ refl (ap (map entry) (moved-keeps trx d store (Some l) there locked)) refl
 
+-- a commit leaves a document of which at most one active log has changes
 pub commit_same : (trx d : ℕ) (store : Store) → IsLocked d store.active → document (committed_by trx store) d ≡ document store d
 commit_same trx d store locked = moved_same trx d store (log_of store.active trx) refl locked

@@ -21,6 +21,7 @@ use Rattle.read_model.proofs.LobLemmas.{each_same, without_other}
 
 -- ---- purge passes a record
 
+-- what holds of the rows down to a seen transaction holds of the row that the view sees
 pub to_so : (P : Row → Type 0) (sees : Sees) (trx : ℕ) (row : Row) (above older : List Entry) (v : Row) (cs : List Change) → sees trx ≡ true → IsSeen sees row above v → map entry cs ≡ above ++ older
     → AllTo trx P row cs → P v
 to_so P sees trx row [] older v [] known walk records all = subst P walk.0 all
@@ -44,9 +45,11 @@ pub entries_joined : (cs ds : List Change) → map entry (cs ++ ds) ≡ map entr
 entries_joined [] ds = refl
 entries_joined (c ∷ cs) ds = ap (λ (es : List Entry). entry c ∷ es) (entries_joined cs ds)
 
+-- a document's changes without the record that purge passes
 pub front : Store → ℕ → List Change
 front store d = changes (on_oldest passed store) d
 
+-- the record that purge passes is the last of its document's changes
 pub own_passed : (a : Address) (u : Record) (store : Store) (l : Log) (ls : List Log) → store.committed ≡ l ∷ ls → last_in l.records ≡ (a, u) ∷ []
     → changes store u.doc ≡ front store u.doc ++ change l.trx a u ∷ []
 unfolding front
@@ -71,11 +74,13 @@ cleared_same sees store d before (versioned pieces touched) clears above older v
 cleared_same sees store d before (patched old) clears above older v visible state = each_same v.lob.version (pieces_at store.lobs v.lob.page)
 cleared_same sees store d before removed clears above older v visible state = other_same sees store d before.lob.page clears above older v visible state
 
+-- in a whole chain, a view that sees the purged transaction sees the row above the passed record
 pub seen_front : (sees : Sees) (a : Address) (u : Record) (store : Store) (l : Log) (ls : List Log) → store.committed ≡ l ∷ ls → last_in l.records ≡ (a, u) ∷ [] → sees l.trx ≡ true
     → IsChain (row_before store u.doc) (changes store u.doc) → sees (row_behind (row_before store u.doc) (map entry (front store u.doc))).trx ≡ true
 seen_front sees a u store l ls first oldest known chain =
     ap sees (behind_front (row_before store u.doc) (front store u.doc) (change l.trx a u) [] (subst (IsChain (row_before store u.doc)) (own_passed a u store l ls first oldest) chain)) ∙ known
 
+-- the purge of a record goes past it, for a view that sees its transaction and not the freed LOB
 pub record_passes : (sees : Sees) (a : Address) (u : Record) (store : Store) (l : Log) (ls : List Log) → store.committed ≡ l ∷ ls → last_in l.records ≡ (a, u) ∷ [] → sees l.trx ≡ true
     → IsChain (row_before store u.doc) (changes store u.doc) → ClearsElsewhere sees store u.doc u.before u.body → row_before (record_passed a l.trx u store) u.doc ≡ row_before store u.doc
     → Passes sees (document store u.doc) (document (record_passed a l.trx u store) u.doc)
@@ -91,6 +96,7 @@ record_passes sees a u store l ls first oldest known chain clears stays = record
       (cleared_same sees store u.doc u.before u.body clears above older v visible state);
 }
 
+-- where the purge of a record leaves no row, it sweeps one that isn't live and that the view sees
 pub record_sweeps : (sees : Sees) (a : Address) (u : Record) (store : Store) (l : Log) → sees (row_before store u.doc).trx ≡ true → (row_before store u.doc).state ≢ live → sees 0 ≡ true
     → row_before (record_passed a l.trx u store) u.doc ≡ absent_row → Sweeps sees (document store u.doc) (document (record_passed a l.trx u store) u.doc)
 record_sweeps sees a u store l seen state zero_seen gone = record {

@@ -66,21 +66,26 @@ laid_touched sees store d rs all = runs_touch sees (document store d) rs (λ abo
 to_document : (sees : Sees) (store : Store) (d : ℕ) (f : List Lob → List Lob) (new : Document) → new ≡ doc_lobs f (document store d) → Touches sees (document store d) (doc_lobs f (document store d)) → Touches sees (document store d) new
 to_document sees store d f new is touches = subst (λ (x : Document). Touches sees (document store d) x) (sym is) touches
 
+-- an insert begun touches LOBs alone for another document, which doesn't have the new LOB
 pub insert_touches : (sees : Sees) (p : Plan) (lob : Lob) (n : ℕ) (store : Store) (d : ℕ) → d ≢ p.doc → AllRows (IsElsewhere lob.page) store d → Touches sees (document store d) (document (insert_begun p lob n store) d)
 insert_touches sees p lob n store d other all = to_document sees store d (λ ls. ls ++ lob ∷ []) _ (planned_others p (new_row p lob.page n) (inserted lob.page) (λ ls. ls ++ lob ∷ []) store d other) (added_touched sees store d lob all)
 
+-- the same of a new encoding
 pub rebuild_touches : (sees : Sees) (p : Plan) (lob : Lob) (n : ℕ) (store : Store) (d : ℕ) → d ≢ p.doc → AllRows (IsElsewhere lob.page) store d → Touches sees (document store d) (document (rebuild_begun p lob n store) d)
 rebuild_touches sees p lob n store d other all = to_document sees store d (λ ls. ls ++ lob ∷ []) _ (planned_others p (new_row p lob.page n) (rebuilt lob.page) (λ ls. ls ++ lob ∷ []) store d other) (added_touched sees store d lob all)
 
+-- the same of a raised version, whatever LOBs the other document has
 pub version_touches : (sees : Sees) (p : Plan) (pieces : ℕ) (touched : List ℕ) (store : Store) (d : ℕ) → d ≢ p.doc → Touches sees (document store d) (document (version_begun p pieces touched store) d)
 version_touches sees p pieces touched store d other =
     let before = row_before store p.doc in
     to_document sees store d (on_lob before.lob.page (at_version (suc before.lob.version))) _ (planned_others p (raised_row p) (versioned pieces touched) (on_lob before.lob.page (at_version (suc before.lob.version))) store d other)
     (raised_touched sees (document store d) before.lob.page (suc before.lob.version))
 
+-- the same of bytes written in place, which no row of the other document shows
 pub patch_touches : (sees : Sees) (p : Plan) (old new : List Run) (store : Store) (d : ℕ) → d ≢ p.doc → AllRows (IsUntouched new store.lobs) store d → Touches sees (document store d) (document (patch_made p old new store) d)
 patch_touches sees p old new store d other all = to_document sees store d (lobs_laid new) _ (planned_others p (patched_row p) (patched old) (lobs_laid new) store d other) (laid_touched sees store d new all)
 
+-- the same of a deletion, whatever LOBs the other document has
 pub delete_touches : (sees : Sees) (p : Plan) (store : Store) (d : ℕ) → d ≢ p.doc → Touches sees (document store d) (document (delete_made p store) d)
 delete_touches sees p store d other = to_document sees store d (λ ls. ls) _ (planned_others p (deleted_row p) removed (λ ls. ls) store d other) (nothing_touched sees (document store d))
 
@@ -93,6 +98,7 @@ unmade_touched sees store d before (versioned pieces touched) all = raised_touch
 unmade_touched sees store d before (patched old) all = laid_touched sees store d old all
 unmade_touched sees store d before removed all = nothing_touched sees (document store d)
 
+-- the end of an undoing does so where the other document shows nothing that it takes back
 pub undo_touches : (sees : Sees) (trx : ℕ) (place : Address) (u : Record) (store : Store) (d : ℕ) → IsNewest trx place u store → d ≢ u.doc → OthersElsewhere u.body store d
     → Touches sees (document store d) (document (undo_ended trx u store) d)
 undo_touches sees trx place u store d newest other all = to_document sees store d (unmade u.body u.before) _ (undone_others trx place u store d newest other) (unmade_touched sees store d u.before u.body all)
@@ -105,6 +111,7 @@ cleared_touched sees store d before (versioned pieces touched) all = nothing_tou
 cleared_touched sees store d before (patched old) all = nothing_touched sees (document store d)
 cleared_touched sees store d before removed all = freed_touched sees store d before.lob.page (all tt)
 
+-- the purge of a record does so where the other document doesn't have the LOB that it frees
 pub pass_touches : (sees : Sees) (a : Address) (u : Record) (store : Store) (l : Log) (ls : List Log) (d : ℕ) → store.committed ≡ l ∷ ls → last_in l.records ≡ (a, u) ∷ [] → d ≢ u.doc
     → (Frees u.body → AllRows (IsElsewhere u.before.lob.page) store d) → Touches sees (document store d) (document (record_passed a l.trx u store) d)
 pass_touches sees a u store l ls d first oldest other all = to_document sees store d (cleared u.body u.before) _ (passed_others a u store l ls d first oldest other) (cleared_touched sees store d u.before u.body all)

@@ -74,6 +74,7 @@ from_top sees old new e shown f above older v r visible holds at =
       judged = at ∙ sym r.row;
     }
 
+-- a newest row that the view doesn't see leads to the newest record
 pub led_on : (sees : Sees) (row : Row) (left : List Entry) (e : Entry) (above older : List Entry) (v : Row) → sees row.trx ≡ false
     → e ∷ left ≡ above ++ older → IsSeen sees row above v → row.roll ≡ Some e.0
 led_on sees row left e [] older v unseen records walk = absurd (never (ap (λ (r : Row). sees r.trx) walk.0 ∙ walk.1) unseen)
@@ -133,6 +134,7 @@ onward_unseen sees v row seen unseen = by_case (row.trx == v.trx) refl
     by_case true is = absurd (never (ap sees (eqb-true row.trx v.trx is) ∙ seen) unseen)
     by_case false is = refl
 
+-- at the visible row there is no record to go on with
 pub onward_same : (v row : Row) → row ≡ v → onward v row ≡ None
 onward_same v row is = rw is (search rules)
 
@@ -219,6 +221,7 @@ removed_in Unpatch sees old new e shown row cursor at copied r c =
 removed_in Ready sees old new e shown row cursor at copied r c = c
 removed_in Absent sees old new e shown row cursor at copied r c = c
 
+-- a read stays as it must be where the newest record is undone and handed on to it
 pub kept_where_removed : (sees : Sees) (old new : Document) (e : Entry) (shown : Option (List Part)) (f : Flight) → Removes sees old new e → IsFlight sees old shown f
     → IsFlight sees new shown (hand_on e.0 e.1 f)
 kept_where_removed sees old new e shown f r kept = removed_in f.phase sees old new e shown f.row f.cursor f.node f.copied r kept

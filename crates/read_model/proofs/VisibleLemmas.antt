@@ -9,6 +9,7 @@ use Rattle.read_model.specs.Document.{Document, Sees, IsSeen, IsVisible, content
 use Rattle.read_model.specs.Flight.{row_behind}
 use Rattle.read_model.specs.Events.{Adds, Passes}
 
+-- equal lists have equal heads
 pub heads : {A : Type 0} (x y : A) (xs ys : List A) → x ∷ xs ≡ y ∷ ys → x ≡ y
 heads {A = A} x y xs ys e = ap (λ (l : List A). first l) e
   where
@@ -16,6 +17,7 @@ heads {A = A} x y xs ys e = ap (λ (l : List A). first l) e
     first [] = x
     first (z ∷ zs) = z
 
+-- equal lists have equal tails
 pub tails : {A : Type 0} (x y : A) (xs ys : List A) → x ∷ xs ≡ y ∷ ys → xs ≡ ys
 tails {A = A} x y xs ys e = ap (λ (l : List A). rest l) e
   where
@@ -23,11 +25,13 @@ tails {A = A} x y xs ys e = ap (λ (l : List A). rest l) e
     rest [] = []
     rest (z ∷ zs) = zs
 
+-- nothing is both true and false
 pub never : {b : Bool} → b ≡ true → b ≡ false → ⊥
 never h k = false≢true (sym k ∙ h)
 
 -- ---- one view
 
+-- the view sees the row that the records lead to
 pub seen_row : (sees : Sees) (row : Row) (above : List Entry) (v : Row) → IsSeen sees row above v → sees v.trx ≡ true
 seen_row sees row [] v walk = walk.1
 seen_row sees row (e ∷ es) v walk = seen_row sees e.1.before es v walk.2
@@ -42,6 +46,7 @@ pub seen_at_once : (sees : Sees) (row : Row) (above : List Entry) (v : Row) → 
 seen_at_once sees row [] v walk seen = refl
 seen_at_once sees row (e ∷ es) v walk seen = absurd (never seen walk.0)
 
+-- where the view sees the newest row, that is the row which it sees of the document
 pub seen_top : (sees : Sees) (row : Row) (above : List Entry) (v : Row) → IsSeen sees row above v → sees row.trx ≡ true → row ≡ v
 seen_top sees row [] v walk seen = walk.0
 seen_top sees row (e ∷ es) v walk seen = absurd (never seen walk.0)
@@ -57,6 +62,7 @@ visible_is sees row [] [] v walk = walk.0
 visible_is sees row [] (x ∷ xs) v walk = rw (ap (λ (r : Row). sees r.trx) walk.0 ∙ walk.1) walk.0
 visible_is sees row (e ∷ es) older v walk = rw walk.0 (visible_is sees e.1.before es older v walk.2)
 
+-- what a view sees of a document is the content of the visible row
 pub under_is : (sees : Sees) (doc : Document) (above older : List Entry) (v : Row) → IsVisible sees doc above older v → under sees doc ≡ content doc.lobs v above
 under_is sees doc above older v visible =
     ap₂ (λ (r : Row) (l : List Entry). content doc.lobs r l)
@@ -71,14 +77,17 @@ by_state absent a b same = refl
 by_state live a b same = ap (λ (l : List Part). Some l) (same refl)
 by_state deleted a b same = refl
 
+-- a row's content stays where the parts of a live one do, with old bytes put back
 pub content_same : (lobs lobs' : List Lob) (v : Row) (above above' : List Entry)
     → (v.state ≡ live → map (back above') (parts_at lobs' v.lob) ≡ map (back above) (parts_at lobs v.lob))
     → content lobs' v above' ≡ content lobs v above
 content_same lobs lobs' v above above' same = by_state v.state _ _ same
 
+-- a live row's content is its LOB at its version, with old bytes put back
 pub content_live : (lobs : List Lob) (v : Row) (above : List Entry) → v.state ≡ live → content lobs v above ≡ Some (map (back above) (parts_at lobs v.lob))
 content_live lobs v above h = rw h refl
 
+-- a row that isn't live has no content
 pub content_none : (lobs : List Lob) (v : Row) (above : List Entry) → v.state ≢ live → content lobs v above ≡ None
 content_none lobs v above h = by_none v.state (map (back above) (parts_at lobs v.lob)) h
   where
@@ -89,6 +98,7 @@ content_none lobs v above h = by_none v.state (map (back above) (parts_at lobs v
 
 -- ---- events
 
+-- a record added stands above the row that the view sees, which stays
 pub added : (sees : Sees) (old new : Document) (e : Entry) (above older : List Entry) (v : Row) → Adds sees old new e → IsVisible sees old above older v
     → IsVisible sees new (e ∷ above) older v
 added sees old new e above older v a visible = record {
@@ -102,6 +112,7 @@ pub record IsRest (sees : Sees) (above older left : List Entry) (e : Entry) (v :
   pub records : left ≡ rest ++ older
   pub walk : IsSeen sees e.1.before rest v
 
+-- where the view doesn't see the newest row, the records without the newest lead to the same row
 pub removed : (sees : Sees) (row : Row) (left : List Entry) (e : Entry) (above older : List Entry) (v : Row) → sees row.trx ≡ false
     → e ∷ left ≡ above ++ older → IsSeen sees row above v → (rest : List Entry) × IsRest sees above older left e v rest
 removed sees row left e [] older v unseen records walk = absurd (never (ap (λ (r : Row). sees r.trx) walk.0 ∙ walk.1) unseen)
@@ -126,6 +137,7 @@ passed_by sees row (y ∷ ys) gone (x ∷ xs) older v seen records walk =
     (tails y x (ys ++ gone) (xs ++ older) records) walk.2 in
     (rest.0, ap₂ (λ (z : Entry) (l : List Entry). z ∷ l) same rest.1)
 
+-- where purge goes past records, the view sees the same row, behind the same records
 pub passed : (sees : Sees) (old new : Document) (above older : List Entry) (v : Row) → Passes sees old new → IsVisible sees old above older v
     → (left : List Entry) × IsVisible sees new above left v
 passed sees old new above older v p visible =

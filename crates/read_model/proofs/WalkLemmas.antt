@@ -23,6 +23,7 @@ map_same : (cs : List Part) → map (back []) cs ≡ cs
 map_same [] = refl
 map_same (c ∷ cs) = cons refl (map_same cs)
 
+-- a walk with no record left makes the read ready
 pub walk_none : (n : ℕ) (doc : Document) (f : Flight) → f.cursor ≡ None → walk n doc f ≡ record f { phase = Ready }
 walk_none zero doc f none = rw none refl
 walk_none (suc n) doc f none = rw none refl
@@ -107,6 +108,7 @@ lent_kept Unpatch sees doc shown f is kept = subst (λ (p : Phase). IsFlightIn p
 lent_kept Ready sees doc shown f is kept = subst (λ (p : Phase). IsFlightIn p sees doc shown f) (sym is) kept
 lent_kept Absent sees doc shown f is kept = subst (λ (p : Phase). IsFlightIn p sees doc shown f) (sym is) kept
 
+-- each of a read's own events leaves it as it must be
 pub event_kept : (sees : Sees) (doc : Document) (shown : Option (List Part)) (f : Flight) → AreDistinct doc.records → IsFlight sees doc shown f → IsFlight sees doc shown (event_of_read sees doc f)
 event_kept sees doc shown f distinct kept = lent_kept (step sees doc f).phase sees doc shown (step sees doc f) refl (step_kept sees doc shown f distinct kept)
 

@@ -17,6 +17,7 @@ use Rattle.read_model.proofs.WalkLemmas.{walk_none}
 
 -- ---- records
 
+-- from a record's address on there are that record and those behind it
 pub from_here : (newer : List Entry) (e : Entry) (older : List Entry) → AreDistinct (newer ++ (e ∷ older)) → records_from (Some e.0) (newer ++ (e ∷ older)) ≡ e ∷ older
 from_here [] e older distinct = rw (true_same e.0 e.0 refl) refl
 from_here (x ∷ xs) e older distinct = by_case (same_place x.0 e.0) refl (from_here xs e older distinct.1)
@@ -32,6 +33,7 @@ from_here (x ∷ xs) e older distinct = by_case (same_place x.0 e.0) refl (from_
 
 -- ---- Seek
 
+-- a row that is arrived at brings a read behind Seek
 pub low_arrival : (row : Row) (s : RowState) → rank (arrival row s) < 3
 low_arrival row absent = omega arith
 low_arrival row live = omega arith
@@ -41,6 +43,7 @@ low_arrival row deleted = omega arith
 unfoldable pub Sought : ℕ → ℕ → Document → Flight → Type 0
 Sought n most doc f = (rank f.phase < 3) ⊎ ((f.phase ≡ Seek) × (length (records_from f.row.roll doc.records) + n ≤ most))
 
+-- a seek over n records brings the read to a later phase, or leaves n fewer
 pub sought : (n : ℕ) (sees : Sees) (doc : Document) (passed rest older : List Entry) (v row : Row) → AreDistinct doc.records → IsVisible sees doc (passed ++ rest) older v
     → row ≡ row_behind doc.row passed → Sought n (length (rest ++ older)) doc (seek n sees doc row)
 unfolding Sought
@@ -78,6 +81,7 @@ sought (suc n) sees doc passed (e ∷ es) older v row distinct visible judged =
 unfoldable pub Walked : ℕ → ℕ → Document → Flight → Type 0
 Walked n most doc f = (rank f.phase < 1) ⊎ ((f.phase ≡ Unpatch) × (length (records_from f.cursor doc.records) + n ≤ most))
 
+-- a walk over n records makes the read ready, or leaves n fewer
 pub walked : (n : ℕ) (sees : Sees) (doc : Document) (f : Flight) (newer rest older : List Entry) → AreDistinct doc.records → f.phase ≡ Unpatch
     → IsVisible sees doc (newer ++ rest) older f.row → f.cursor ≡ onward f.row (row_behind doc.row newer) → Walked n (length (rest ++ older)) doc (walk n doc f)
 unfolding Walked

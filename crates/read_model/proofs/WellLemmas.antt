@@ -30,6 +30,7 @@ use Rattle.read_model.proofs.StorePurgeLemmas.{to_so, own_passed, front, seen_fr
 
 -- ---- undoing
 
+-- in a whole chain, the end of an undoing removes the newest record, where a row is left
 pub undo_well : (sees : Sees) (trx : ℕ) (place : Address) (u : Record) (store : Store) → IsNewest trx place u store → IsChain (row_before store u.doc) (changes store u.doc) → sees trx ≡ false
     → IsOther place (map entry (changes (without_newest trx u store) u.doc)) → is_gone (without_newest trx u store) u.before.state u.before ≡ false
     → Removes sees (document store u.doc) (document (undo_ended trx u store) u.doc) (place, u)
@@ -40,6 +41,7 @@ undo_well sees trx place u store newest chain unseen other stays =
 
 -- ---- pushes and pops of a change of pieces: the visible row is of a version below the raised one
 
+-- in a whole chain, a view that doesn't see a raised version sees only older ones of that LOB
 pub raised_well : (sees : Sees) (store : Store) (d : ℕ) (c : Change) (cs : List Change) (pieces : ℕ) (touched : List ℕ) → changes store d ≡ c ∷ cs → IsChain (row_before store d) (changes store d)
     → c.undo.body ≡ versioned pieces touched → sees c.trx ≡ false → IsOlder sees (document store d) c.undo.before.lob.page (suc c.undo.before.lob.version)
 raised_well sees store d c cs pieces touched is chain body unseen =
@@ -60,6 +62,7 @@ own_lob b r before c ds is kind fresh (inr e) state here same =
     (subst (λ (k : Body). OlderElsewhere k (c ∷ ds)) e.1 fresh).0 (ap (λ (w : Row). w.state) is ∙ state)
     (ap (λ (w : Row). w.lob.page) is ∙ sym same ∙ (subst (λ (k : Body). IsKind k r before) e.1 kind).1)
 
+-- the row before a deletion or a new encoding was live
 pub live_before : (b : Body) (r before : Row) → IsKind b r before → (b ≡ removed) ⊎ ((page : ℕ) × (b ≡ rebuilt page)) → before.state ≡ live
 live_before b r before kind (inl e) = (subst (λ (k : Body). IsKind k r before) e kind).1
 live_before b r before kind (inr e) = (subst (λ (k : Body). IsKind k r before) e.1 kind).2
@@ -150,6 +153,7 @@ drops v zero (p ∷ ps) at = (has_one v (p.head ∷ all_but_last p.older) at, ot
     others (q ∷ qs) = (tt, others qs)
 drops v (suc k) (p ∷ ps) at = (tt, drops v k ps at)
 
+-- a view that sees the purged transaction needs no dropped version that no row down to it needs
 pub drop_well : (sees : Sees) (store : Store) (d page k trx : ℕ) → sees trx ≡ true → AllTo trx (FindsWithout page k store.lobs) (row_before store d) (changes store d) → MayDropAt sees (document store d) page k
 drop_well sees store d page k trx known all above older v visible state here =
     let finds = to_so (FindsWithout page k store.lobs) sees trx (row_before store d) above older v (changes store d) known visible.walk visible.records all in

@@ -31,6 +31,7 @@ pub named_distinct : (cs : List Change) → AreNamedOnce cs → AreDistinct (map
 named_distinct [] once = tt
 named_distinct (c ∷ cs) once = (new_other c.place cs once.0, named_distinct cs once.1)
 
+-- in a store that is well, a document's records stand at different addresses
 pub well_distinct : (store : Store) (d : ℕ) → IsWell store → AreDistinct (document store d).records
 well_distinct store d well = named_distinct (changes store d) (well.places d)
 
@@ -51,6 +52,7 @@ versioned_live b row before pieces touched is kind = (subst (λ (k : Body). IsKi
 
 -- ---- events
 
+-- in a store that is well, the end of an undoing keeps all reads that don't see the transaction
 pub whole_undone : (trx : ℕ) (place : Address) (u : Record) (store : Store) (rs : List Read) → IsWell store → IsNewest trx place u store → ((d : ℕ) → d ≢ u.doc → OthersElsewhere u.body store d)
     → MaySee (λ r. (r.sees trx ≡ false) × (r.sees 0 ≡ true) × (is_gone (without_newest trx u store) u.before.state u.before ≡ true → r.sees u.before.trx ≡ true)) rs
     → AreReads store rs → AreReads (undo_ended trx u store) (map (handed u.doc place u) rs)
@@ -58,9 +60,11 @@ whole_undone trx place u store rs well newest others may reads =
     let once : AreNamedOnce (change trx place u ∷ changes (without_newest trx u store) u.doc) = subst AreNamedOnce (changes-popped trx place u store newest) (well.places u.doc) in
     reads_undone trx place u store rs newest (well.chains u.doc) (new_other place (changes (without_newest trx u store) u.doc) once.0) others may reads
 
+-- in a store that is well, a commit keeps all reads
 pub whole_committed : (trx : ℕ) (store : Store) (rs : List Read) → IsWell store → AreReads store rs → AreReads (committed_by trx store) rs
 whole_committed trx store rs well reads = reads_committed trx store rs well.locked reads
 
+-- in a store that is well, a push for the newest change keeps all reads that don't see it
 pub whole_pushed : (store : Store) (d k : ℕ) (node : Address) (x : Version) (index : List ℕ) (free : List Address) (c : Change) (cs : List Change) (pieces : ℕ) (touched : List ℕ) (rs : List Read)
     → IsWell store → changes store d ≡ c ∷ cs → c.undo.body ≡ versioned pieces touched → x.number ≡ suc c.undo.before.lob.version → MaySee (λ r. r.sees c.trx ≡ false) rs
     → AreReads store rs → AreReads (version_pushed c.undo.before.lob.page k node x index free store) rs
@@ -69,6 +73,7 @@ whole_pushed store d k node x index free c cs pieces touched rs well is body num
     reads_pushed store d k node x index free c cs pieces touched rs is (well.chains d) body number
     (others_elsewhere store d [] c cs well is (versioned_live c.undo.body (row_before store d) c.undo.before pieces touched body whole.0.kind)) unseen reads
 
+-- the same of its pop; a read at the freed node goes on from the head
 pub whole_popped : (store : Store) (d k : ℕ) (node head : Address) (free : List Address) (c : Change) (cs : List Change) (pieces : ℕ) (touched : List ℕ) (rs : List Read)
     → IsWell store → changes store d ≡ c ∷ cs → c.undo.body ≡ versioned pieces touched
     → AtOne k (IsPushed (suc c.undo.before.lob.version) node head) (HasNoNode node) (pieces_at store.lobs c.undo.before.lob.page)
@@ -86,6 +91,7 @@ frees_kind (versioned pieces touched) frees = absurd frees
 frees_kind (patched old) frees = absurd frees
 frees_kind removed frees = inl refl
 
+-- in a store that is well, the purge of a record keeps all reads that see its transaction
 pub whole_passed : (a : Address) (u : Record) (store : Store) (l : Log) (ls : List Log) (rs : List Read) → IsWell store → store.committed ≡ l ∷ ls → last_in l.records ≡ (a, u) ∷ []
     → MaySee (λ r. (r.sees l.trx ≡ true) × (r.sees 0 ≡ true)) rs → AreReads store rs → AreReads (record_passed a l.trx u store) rs
 whole_passed a u store l ls rs well first oldest may reads =

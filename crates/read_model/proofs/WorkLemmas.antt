@@ -48,6 +48,7 @@ older_each store d c cs pieces touched r is chain body others unseen = elim (eqb
   | inr other ↦ λ above older v visible state same. absurd (seen_elsewhere r.sees store r.doc c.undo.before.lob.page (others r.doc other.1) above older v visible state same)
 ]
 
+-- a version pushed for the newest change keeps all reads whose views don't see that change
 pub reads_pushed : (store : Store) (d k : ℕ) (node : Address) (x : Version) (index : List ℕ) (free : List Address) (c : Change) (cs : List Change) (pieces : ℕ) (touched : List ℕ) (rs : List Read)
     → changes store d ≡ c ∷ cs → IsChain (row_before store d) (changes store d) → c.undo.body ≡ versioned pieces touched → x.number ≡ suc c.undo.before.lob.version
     → ((e : ℕ) → e ≢ d → AllRows (IsElsewhere c.undo.before.lob.page) store e) → MaySee (λ r. r.sees c.trx ≡ false) rs
@@ -57,6 +58,7 @@ reads_pushed store d k node x index free c cs pieces touched rs is chain body nu
     (see_more _ _ rs (λ r u. push_touches r.sees store r.doc c.undo.before.lob.page k node x index free
     (subst (IsOlder r.sees (document store r.doc) c.undo.before.lob.page) (sym number) (older_each store d c cs pieces touched r is chain body others u))) unseen) reads
 
+-- so does its pop while the change is undone; a read at the freed node goes on from the head
 pub reads_popped : (store : Store) (d k : ℕ) (node head : Address) (free : List Address) (c : Change) (cs : List Change) (pieces : ℕ) (touched : List ℕ) (rs : List Read)
     → changes store d ≡ c ∷ cs → IsChain (row_before store d) (changes store d) → c.undo.body ≡ versioned pieces touched
     → AtOne k (IsPushed (suc c.undo.before.lob.version) node head) (HasNoNode node) (pieces_at store.lobs c.undo.before.lob.page)
@@ -79,6 +81,7 @@ reads_popped store d k node head free c cs pieces touched rs is chain body pushe
 
 -- ---- purge drops a version that rows down to the purged transaction's don't need
 
+-- a drop keeps all reads that see the purged transaction, where no row down to it needs the version
 pub reads_dropped : (store : Store) (page k trx : ℕ) (free : List Address) (rs : List Read) → ((d : ℕ) → AllTo trx (FindsWithout page k store.lobs) (row_before store d) (changes store d))
     → MaySee (λ r. r.sees trx ≡ true) rs → AreReads store rs → AreReads (version_dropped page k free store) rs
 reads_dropped store page k trx free rs finds known reads =

@@ -12,12 +12,14 @@ use Rattle.redo_log.proofs.ReadingLemmas.{HasRead, has_read, has_then}
 use Rattle.engine_base.specs.Disk.{DiskState, Stays, GoesOn}
 use Rattle.engine_base.specs.declared.fault.Fault.{Fault}
 
+-- a part without its first u bytes is the part that begins u bytes later
 pub drop_part : (file : List ℕ) (at n u : ℕ) → u ≤ n → drop u (part file at n) ≡ part file (at + u) (n - u)
 unfolding part
 drop_part file at n u low =
     let whole : n ≡ u + (n - u) = omega arith in
     ap (λ (k : ℕ). drop u (take k (drop at file))) whole ∙ drop-take u (n - u) (drop at file) ∙ ap (take (n - u)) (drop-drop u at file)
 
+-- a gate that was found, and where
 abbrev pub found : ℕ → Gate → Found
 found at gate = record { at = at; gate = gate }
 

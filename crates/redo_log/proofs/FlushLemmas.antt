@@ -18,6 +18,7 @@ with_some : (gs : List Group) → 0 < length gs → (r : LogRead) → with_block
 with_some [] some r = absurd (omega arith)
 with_some (g ∷ gs) some r = refl
 
+-- where there are groups, a flush takes the bytes of their block
 pub taken_some : (gs : List Group) → 0 < length gs → block_len gs ≡ taken gs
 taken_some [] some = absurd (omega arith)
 taken_some (g ∷ gs) some = refl

@@ -4,7 +4,7 @@ use Rattle.std.proofs.lemmas.List.{take-take, length-take, take-append-drop}
 use Rattle.byteorder.specs.Endian.{big_number}
 use Rattle.byteorder.specs.Numbers.{big_from-append}
 use Rattle.engine_base.specs.Disk.{Holds}
-use Rattle.page_model.specs.Frames.{greatest_group, HasHeader}
+use Rattle.page_model.specs.Frames.{max_group, HasHeader}
 use Rattle.file_model.specs.Sections.{part}
 use Rattle.file_model.specs.Frames.{first_bytes}
 use Rattle.file_model.proofs.PartLemmas.{length-part, held_whole}
@@ -37,7 +37,7 @@ module _ (file : List ℕ) (place left : ℕ) (whole : place + left ≤ length f
     number : big_number 4 xs ≡ n
     number = by_four xs (omega (arith, some, long)) ∙ ap (big_number 4) (take_part file place left 4 (omega (arith, some)) ∙ held_whole file bytes place 4 holds four) ∙ sym is
 
-    is_not : (greatest_group < n) ⊎ (left < n) → ¬ (HasHeader (first_bytes xs))
+    is_not : (max_group < n) ⊎ (left < n) → ¬ (HasHeader (first_bytes xs))
     is_not large head =
         let len = first_len in
         let m = number in
@@ -58,11 +58,13 @@ pub head_none : (place left : ℕ) (buffer : List ℕ) (o : Option (List ℕ)) �
 head_none place left buffer None few whole = tt
 head_none place left buffer (Some file) few whole = is_none file place left whole few
 
-pub head_not : (place left : ℕ) (buffer bytes : List ℕ) (n : ℕ) (o : Option (List ℕ)) → 6 ≤ left → length bytes ≡ 4 → n ≡ big_number 4 bytes → (greatest_group < n) ⊎ (left < n)
+-- a length above a group's, or above what is left, is none that a frame can have there
+pub head_not : (place left : ℕ) (buffer bytes : List ℕ) (n : ℕ) (o : Option (List ℕ)) → 6 ≤ left → length bytes ≡ 4 → n ≡ big_number 4 bytes → (max_group < n) ⊎ (left < n)
     → IfSome o (λ file. place + left ≤ length file) → IfSome o (λ file. Holds file place bytes) → IfSome o (λ file. IsHead false buffer (part file place left))
 head_not place left buffer bytes n None some four is large whole holds = tt
 head_not place left buffer bytes n (Some file) some four is large whole holds = is_not file place left whole bytes n some four is holds large
 
+-- where that length is at most what is left, the bytes read are the first frame's
 pub head_first : (place left : ℕ) (buffer bytes : List ℕ) (n : ℕ) (o p : Option (List ℕ)) → p ≡ o → 6 ≤ left → length bytes ≡ 4 → n ≡ big_number 4 bytes → n ≤ left
     → IfSome o (λ file. place + left ≤ length file) → IfSome o (λ file. Holds file place bytes) → IfSome p (λ file. buffer ≡ part file place n) → IfSome o (λ file. IsHead true buffer (part file place left))
 head_first place left buffer bytes n None p same some four is inside whole holds filled = tt

@@ -14,16 +14,19 @@ use Rattle.file_model.proofs.FrameLemmas.{frames_more, frames_back}
 use Rattle.redo_log.proofs.FlushLemmas.{taken_some}
 use Rattle.redo_log.specs.Logs.{KeepsLog, pending_in, buffer_bytes, log_room, LogState, taken}
 
+-- a log's state, from its parts
 abbrev pub log_state : Layout → ℕ → ℕ → ℕ → List Group → LogState
 log_state l region start used pending = record { layout = l; region = region; start = start; used = used; pending = pending }
 
+-- a layout within the limits has at most 2^32 pages
 pub few_pages : (l : Layout) → IsInLimits l → l.pages ≤ 2 ^ 32
-few_pages l limits = omega (arith, limits.most_pages)
+few_pages l limits = omega (arith, limits.max_pages)
 
 -- a buffer of these frames has these groups waiting
 pub pending_are : (pages : ℕ) (buffer : List ℕ) (gs : List Group) → pages ≤ 2 ^ 32 → All (IsLoggable pages) gs → drop 4 buffer ≡ frames_bytes gs → pending_in pages buffer ≡ gs
 pending_are pages buffer gs few good is = ap (λ (xs : List ℕ). (frames_of pages xs).groups) is ∙ ap (λ (f : FramesRead). f.groups) (frames_back pages gs few good)
 
+-- a buffer of the frames of loggable groups keeps a log, where buffer and region have room
 pub keeps_of : (l : Layout) (region used capacity : ℕ) (buffer : List ℕ) (gs : List Group) → IsInLimits l → region ≤ 1 → used ≤ region_room l → 4 ≤ length buffer → drop 4 buffer ≡ frames_bytes gs
     → All (IsLoggable l.pages) gs → length buffer < buffer_bytes → (4 < length buffer → used + (1 + length buffer) ≤ region_room l) → buffer_bytes ≤ capacity → KeepsLog l region used buffer capacity
 keeps_of l region used capacity buffer gs limits which inside head is good short room enough =
@@ -49,6 +52,7 @@ pub takes : (gs : List Group) → 1 ≤ length gs → 6 ≤ length (frames_bytes
 takes [] some = absurd (omega arith)
 takes (g ∷ gs) some = omega (arith, length-append (frame_bytes g) (frames_bytes gs), length-frame g)
 
+-- a group is pending just where the buffer has more than its first four bytes
 pub has_pending : (l : Layout) (region used capacity : ℕ) (buffer : List ℕ) → KeepsLog l region used buffer capacity → (4 < length buffer → 1 ≤ length (pending_in l.pages buffer)) × (1 ≤ length (pending_in l.pages buffer) → 4 < length buffer)
 has_pending l region used capacity buffer keeps =
     let long : length (frames_bytes (pending_in l.pages buffer)) ≡ length buffer - 4 = ap length (sym keeps.frames) ∙ length-drop 4 buffer in (
@@ -86,6 +90,7 @@ room_of l region start used capacity buffer n keeps room =
 
 -- ---- a buffer that was sealed for a flush, and opened again
 
+-- length, frames and a closed gate make the block of the groups that are pending
 pub sealed_is : (pages : ℕ) (buffer sealed : List ℕ) → drop 4 buffer ≡ frames_bytes (pending_in pages buffer) → sealed ≡ big_bytes 4 (length (drop 4 buffer)) ++ (drop 4 buffer ++ 0 ∷ []) → sealed ≡ block_bytes (pending_in pages buffer)
 sealed_is pages buffer sealed frames is = is ∙ ap (λ (xs : List ℕ). big_bytes 4 (length xs) ++ (xs ++ 0 ∷ [])) frames
 
@@ -93,6 +98,7 @@ sealed_is pages buffer sealed frames is = is ∙ ap (λ (xs : List ℕ). big_byt
 abbrev pub unsealed : List Group → List ℕ
 unsealed gs = big_bytes 4 (length (frames_bytes gs)) ++ frames_bytes gs
 
+-- a block is what stands before its closed gate, and then the gate
 pub sealed_split : (gs : List Group) → block_bytes gs ≡ unsealed gs ++ 0 ∷ []
 sealed_split gs = sym (append_assoc (big_bytes 4 (length (frames_bytes gs))) (frames_bytes gs) (0 ∷ []))
 
@@ -144,6 +150,7 @@ taken_is l region used capacity buffer keeps some =
       room,
     )
 
+-- what holds anyway holds where a call fails
 pub on_err : {T E P : Type 0} (r : Result T E) → P → OnErr r P
 on_err (Ok x) holds = tt
 on_err (Err e) holds = holds

@@ -22,9 +22,11 @@ use Rattle.redo_log.specs.Scans.{IsGate, Leads, LeadsTo, rest_in, rest_of, end_a
 use Rattle.redo_log.proofs.ScanLemmas.{leads_same, leads_then, at_gate_rest, gate_is_closed, block_passes, block_begins, frame_leads, first_short, no_frame_ends}
 use Rattle.redo_log.proofs.FindLemmas.{found, drop_part}
 
+-- a place of a scan: where it is, what is left of its block, and whether the scan has ended
 abbrev pub place : ℕ → ℕ → Bool → Place
 place at left ended = record { at = at; left = left; ended = ended }
 
+-- the blocks of each region lie within the length that the layout wants
 pub region_inside : (l : Layout) (r : ℕ) → IsInLimits l → r ≤ 1 → blocks_place l r + blocks_len l ≤ wanted l
 region_inside l zero limits most = let small = limits.small_log in omega (arith, small)
 region_inside l (suc zero) limits most = let small = limits.small_log in omega (arith, small)
@@ -142,7 +144,7 @@ module _ (l : Layout) (limits : IsInLimits l) (region : ℕ) (most : region ≤ 
     frame_advances f g head holds same =
         let first = first_bytes (take left bytes) in
         let e : f ≡ first = head ∙ ap first_bytes head_is in
-        let few = limits.most_pages in
+        let few = limits.max_pages in
         let P : List ℕ → Type 0 = λ xs. is_frame l.pages xs ≡ true in
         let good_f = holds_frame l.pages f (omega (arith, few)) holds in
         let good = subst P e good_f in
@@ -192,15 +194,18 @@ module _ (l : Layout) (limits : IsInLimits l) (region : ℕ) (most : region ≤ 
 
 -- ---- of a file that may be told
 
+-- a file that reaches as far as b reaches as far as any a before it
 pub told_inside : (o : Option (List ℕ)) (a b : ℕ) → a ≤ b → IfSome o (λ file. b ≤ length file) → IfSome o (λ file. a ≤ length file)
 told_inside None a b le whole = tt
 told_inside (Some file) a b le whole = omega (arith, le, whole)
 
+-- a number read from bytes that the file holds is the number in that part of the file
 pub told_number : (o : Option (List ℕ)) (from at n result : ℕ) (bytes : List ℕ) → from ≡ at → length bytes ≡ n → result ≡ big_number n bytes → IfSome o (λ file. Holds file from bytes) → IfSome o (λ file. result ≡ big_number n (part file at n))
 told_number None from at n result bytes same long is holds = tt
 told_number (Some file) from at n result bytes same long is holds =
     is ∙ ap (big_number n) (sym (ap (λ (k : ℕ). part file k n) (sym same) ∙ held_whole file bytes from n holds long))
 
+-- a step to a gate that was found is one for the file that is told, as it is for any whole one
 pub told_found : (l : Layout) (region from blocks len : ℕ) (p q : Place) (f : Found) (o : Option (List ℕ)) → blocks ≡ blocks_place l region → len ≡ blocks_len l → p ≡ place from 0 false
     → IfSome o (λ file. wanted l ≤ length file) → IfSome o (λ file. (pages : ℕ) → LeadsTo pages blocks len from f file)
     → ((file : List ℕ) → wanted l ≤ length file → LeadsTo l.pages (blocks_place l region) (blocks_len l) from f file → Advances l region [] (place from 0 false) q file)
@@ -214,11 +219,13 @@ told_found l region from blocks len p q f (Some file) begins size start whole le
 
 -- ---- a whole scan
 
+-- what is still to come at a region's beginning is the region's log
 pub begins_at : (l : Layout) (region : ℕ) (file : List ℕ) → IsInLimits l → Leads [] 0 (rest_of l region (place 0 0 false) file) (log_of l region file)
 begins_at l region file limits =
     let here : blocks_from l region 0 file ≡ blocks_in l region file = ap₂ (part file) (let e : blocks_place l region + 0 ≡ blocks_place l region = omega arith in e) (let f : blocks_len l - 0 ≡ blocks_len l = omega arith in f) in
     let P : List ℕ → Type 0 = λ xs. Leads [] 0 (rest_of l region (place 0 0 false) file) (log_in l.pages xs) in
     subst P here (at_gate_rest l.pages (blocks_from l region 0 file))
 
+-- and it ends where the region's log ends
 pub begins_end : (l : Layout) (region : ℕ) (file : List ℕ) → IsInLimits l → end_of l region (place 0 0 false) file ≡ end_at l 0 (log_of l region file)
 begins_end l region file limits = sym (ends_by l [] 0 0 (rest_of l region (place 0 0 false) file) (log_of l region file) (begins_at l region file limits))

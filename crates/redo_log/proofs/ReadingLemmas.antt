@@ -9,9 +9,11 @@ pub record HasRead (old new : DiskState) : Type 0 where
   pub time : Elapses old new
   pub more : old.faults ≤ new.faults
 
+-- a call of a disk that leaves what is read and what a crash leaves has only read
 pub has_read : {T : Type 0} (old new : DiskState) (r : Result T Fault) → Stays old new → GoesOn old new r → HasRead old new
 has_read old new r stays on = record { stays = stays; tells = on.tells; time = on.time; more = on.cause.later }
 
+-- two calls that only read, one behind the other, have only read
 pub has_then : (a b c : DiskState) → HasRead a b → HasRead b c → HasRead a c
 has_then a b c one two = record {
   stays = record {

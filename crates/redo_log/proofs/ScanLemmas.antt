@@ -14,9 +14,11 @@ use Rattle.file_model.proofs.LogLemmas.{at_open}
 use Rattle.file_model.proofs.BlockLemmas.{shut_reads}
 use Rattle.redo_log.specs.Scans.{Leads, rest_in}
 
+-- a log leads to itself, with no group given and no byte gone over
 pub leads_same : (r s : LogRead) → r ≡ s → Leads [] 0 r s
 leads_same r s same = record { groups = ap (λ (t : LogRead). t.groups) same; early = ap (λ (t : LogRead). t.early) same; used = λ on. let e : r.used ≡ s.used = ap (λ (t : LogRead). t.used) same in omega (arith, e) }
 
+-- a step without groups, and then another, are one step over the bytes of both
 pub leads_then : (gs : List Group) (j k : ℕ) (r s t : LogRead) → Leads [] j r s → Leads gs k s t → Leads gs (j + k) r t
 leads_then gs j k r s t one two = record {
   groups = one.groups ∙ two.groups;
@@ -26,13 +28,16 @@ leads_then gs j k r s t one two = record {
 
 -- ---- at a gate
 
+-- with no byte left of a block, what is to come is the log from the gate on
 pub at_gate_rest : (pages : ℕ) (bytes : List ℕ) → Leads [] 0 (rest_in pages 0 bytes) (log_in pages bytes)
 unfolding frames_of
 at_gate_rest pages bytes = record { groups = refl; early = refl; used = λ on. omega arith }
 
+-- at a closed gate the log is at its end
 pub gate_is_closed : (pages : ℕ) (bytes : List ℕ) → is_odd (slice_index bytes 0) ≡ false → Leads [] 0 (log_in pages bytes) log_end
 gate_is_closed pages bytes shut = leads_same (log_in pages bytes) log_end (shut_reads pages bytes shut)
 
+-- where the block behind an open gate doesn't fit, the log ends early and without groups
 pub block_passes : (pages : ℕ) (bytes : List ℕ) → is_odd (slice_index bytes 0) ≡ true → 0 < length bytes → length bytes < 6 + frames_len bytes → log_in pages bytes ≡ ends_early []
 block_passes pages bytes odd some past =
     at_open pages bytes odd some
@@ -44,6 +49,7 @@ joined_later fs len r = elim (cases_Bool fs.whole) [
   | inr bad ↦ rw bad (record { groups = refl; early = refl; used = λ on. absurd (true≢false on) })
 ]
 
+-- where the block fits, what is to come is within it, five bytes on
 pub block_begins : (pages : ℕ) (bytes : List ℕ) → is_odd (slice_index bytes 0) ≡ true → 6 + frames_len bytes ≤ length bytes → Leads [] 5 (log_in pages bytes) (rest_in pages (frames_len bytes) (drop 5 bytes))
 unfolding part
 block_begins pages bytes odd fits =

@@ -3,7 +3,7 @@
 --     rest_of, end_of      the groups still to come; how many bytes of the region count as used
 --     Advances, Gives      a step of the scan; a call of `next`
 use Rattle.std.specs.Prelude.{◌≡◌, ℕ, ◌+◌, ◌-◌, ◌<◌, ◌≤◌, Bool, true, false, List, [], ◌∷◌, ◌++◌, All, length, take, drop, slice_index, if◌then◌else◌, Option, Some, None, ⊤}
-use Rattle.page_model.specs.Frames.{greatest_group, frame_bytes, HasHeader, HoldsFrame, IsFrame, IsInside}
+use Rattle.page_model.specs.Frames.{max_group, frame_bytes, HasHeader, HoldsFrame, IsFrame, IsInside}
 use Rattle.mini_trx.specs.Groups.{GroupView}
 use Rattle.file_model.specs.declared.layout.Layout.{Layout}
 use Rattle.file_model.specs.Sections.{IsInLimits, part, blocks_place}
@@ -73,8 +73,8 @@ pub record ScanState : Type 0 where
 
 -- the room for a group's frame is there, in the buffer or in the group that was read last
 abbrev pub HasBuffer : Option GroupView → ℕ → Type 0
-HasBuffer None capacity = greatest_group ≤ capacity
-HasBuffer (Some g) capacity = greatest_group ≤ g.capacity
+HasBuffer None capacity = max_group ≤ capacity
+HasBuffer (Some g) capacity = max_group ≤ g.capacity
 
 pub record KeepsScan (l : Layout) (region : ℕ) (p : Place) : Type 0 where
   pub limits : IsInLimits l

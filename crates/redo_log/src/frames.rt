@@ -1,19 +1,16 @@
 // Reading the frames of a block, each into the buffer of the group that it becomes.
 ghost use Rattle.std.specs.Prelude.{◌≡◌, ◌⊎◌, ◌+◌, ◌≤◌, ◌<◌, ◌^◌, ℕ, true, false, List, length, take, vec_len, vec_capacity, Option, Some, None, IsTrue, IsFalse, IfOk, OnOk, IfSome};
 ghost use Rattle.engine_base.specs.Disk.{Holds, Stays, GoesOn};
-ghost use Rattle.page_model.specs.Frames.{greatest_group, frame_bytes, HoldsFrame};
+ghost use Rattle.page_model.specs.Frames.{max_group, frame_bytes, HoldsFrame};
 ghost use Rattle.mini_trx.specs.Groups.{GroupView};
 ghost use Rattle.file_model.specs.Sections.{part};
 ghost use Rattle.file_model.specs.Frames.{first_bytes, is_frame};
 ghost use Rattle.redo_log.specs.Scans.{HasBuffer, IsHead, IsTaken};
 
 use byteorder::{BigEndian, ByteOrder};
-use engine_base::{Disk, Fault};
+use engine_base::{Disk, Fault, MAX_GROUP};
 use mini_trx::Group;
 use std::mem;
-
-/// How many bytes a group's frame has at most.
-pub(crate) const GREATEST_GROUP: usize = 262_144;
 
 /// Reads so many bytes into the buffer, in the place of what it has.
 fn fill<D: Disk>(disk: &mut D, place: u64, len: usize, buffer: &mut Vec<u8>) -> Result<(), Fault>
@@ -41,12 +38,12 @@ pub(crate) fn read_frame<D: Disk>(
     left: u64,
     buffer: &mut Vec<u8>,
 ) -> Result<bool, Fault>
-    requires room { greatest_group ≤ vec_capacity buffer.old }
+    requires room { max_group ≤ vec_capacity buffer.old }
     requires whole { IfSome (D.state disk.old).seen (λ file. place + left ≤ length file) }
     ensures bytes { IfOk result (λ whole. IfSome (D.state disk.old).seen
         (λ file. IsHead whole buffer.new.items (part file place left))) }
     ensures inside { IfOk result (λ whole. IsTrue whole → vec_len buffer.new ≤ left) }
-    ensures capacity { greatest_group ≤ vec_capacity buffer.new }
+    ensures capacity { max_group ≤ vec_capacity buffer.new }
     ensures stays { Stays (D.state disk.old) (D.state disk.new) }
     ensures goes_on { GoesOn (D.state disk.old) (D.state disk.new) result }
 {
@@ -56,7 +53,7 @@ pub(crate) fn read_frame<D: Disk>(
     let mut len = [0u8; 4];
     disk.read_at(place, &mut len)?;
     let len = BigEndian::read_u32(&len) as usize;
-    if len > GREATEST_GROUP || len as u64 > left {
+    if len > MAX_GROUP || len as u64 > left {
         return Ok(false);
     }
     fill(disk, place, len, buffer)?;
@@ -66,7 +63,7 @@ pub(crate) fn read_frame<D: Disk>(
 /// Takes the buffer back from the group that was read before.
 pub(crate) fn take_back(buffer: &mut Vec<u8>, group: &mut Option<Group>)
     requires { HasBuffer group.old (vec_capacity buffer.old) }
-    ensures room { greatest_group ≤ vec_capacity buffer.new }
+    ensures room { max_group ≤ vec_capacity buffer.new }
     ensures none { group.new ≡ None }
 {
     if let Some(group) = group.take() {
@@ -76,7 +73,7 @@ pub(crate) fn take_back(buffer: &mut Vec<u8>, group: &mut Option<Group>)
 
 /// Makes a group of the buffer where its bytes are the frame of one, and tells whether it did.
 pub(crate) fn into_group(buffer: &mut Vec<u8>, group: &mut Option<Group>, pages: u32) -> bool
-    requires room { greatest_group ≤ vec_capacity buffer.old }
+    requires room { max_group ≤ vec_capacity buffer.old }
     requires none { group.old ≡ None }
     ensures taken { IsTaken result pages buffer.old.items group.new }
     ensures buffer { HasBuffer group.new (vec_capacity buffer.new) }

@@ -63,7 +63,13 @@ impl Log {
         requires region { region ≤ 1 }
         requires used { used ≤ region_room layout }
         ensures { IfOk result (λ log. log
-            ≡ record { layout = layout; region = region; start = start.0; used = used; pending = [] }) }
+            ≡ record {
+              layout = layout;
+              region = region;
+              start = start.0;
+              used = used;
+              pending = [];
+            }) }
     {
         let mut buffer = Vec::with_capacity(alloc, BUFFER)?;
         extend(&mut buffer, &[0, 0, 0, 0]);

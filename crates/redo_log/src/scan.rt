@@ -2,17 +2,17 @@
 ghost use Rattle.std.specs.Prelude.{◌≡◌, ◌+◌, ◌≤◌, ◌<◌, ℕ, true, false, [], ◌∷◌, List, length, vec_len, vec_capacity, All, Option, Some, None, IsTrue, IsFalse, IfOk, OnOk, OnErr, IfSome, IsNone};
 ghost use Rattle.std.specs.Option.{is_some, option_copied};
 ghost use Rattle.engine_base.specs.Disk.{Stays, GoesOn};
-ghost use Rattle.page_model.specs.Frames.{greatest_group, IsInside};
+ghost use Rattle.page_model.specs.Frames.{max_group, IsInside};
 ghost use Rattle.file_model.specs.Sections.{IsInLimits, part, wanted, blocks_place};
 ghost use Rattle.file_model.specs.Blocks.{log_of, region_room, blocks_len, start_in};
 ghost use Rattle.redo_log.specs.Scans.{IsWithin, FitsFound, LeadsTo, Advances, IsHead, HasBuffer, writes_of, at_gate, log_end_of};
 
 use crate::Lsn;
-use crate::frames::{GREATEST_GROUP, into_group, read_frame, take_back};
+use crate::frames::{into_group, read_frame, take_back};
 use crate::gates::find_block;
 use crate::place::{Found, Gate, Place};
 use byteorder::{BigEndian, ByteOrder};
-use engine_base::{Disk, Fault};
+use engine_base::{Disk, Fault, MAX_GROUP};
 use mini_trx::Group;
 use page_device::Layout;
 use std::alloc::{AllocError, Global};
@@ -61,7 +61,7 @@ fn take_frame(
     requires within { IsWithin layout.now place }
     requires some { (place.ended ≡ false) × (0 < place.left) }
     requires short { IsTrue whole → vec_len buffer.old ≤ place.left }
-    requires room { greatest_group ≤ vec_capacity buffer.old }
+    requires room { max_group ≤ vec_capacity buffer.old }
     requires none { group.old ≡ None }
     ensures within { IsWithin layout.now result }
     ensures buffer { HasBuffer group.new (vec_capacity buffer.new) }
@@ -128,7 +128,7 @@ fn over_frame<D: Disk>(
     requires region { region ≤ 1 }
     requires within { IsWithin layout.now place }
     requires some { place.ended ≡ false → 0 < place.left }
-    requires room { greatest_group ≤ vec_capacity buffer.old }
+    requires room { max_group ≤ vec_capacity buffer.old }
     requires none { group.old ≡ None }
     requires whole { IfSome (D.state disk.old).seen (λ file. wanted layout.now ≤ length file) }
     ensures within { IfOk result (λ p. IsWithin layout.now p) }
@@ -219,7 +219,7 @@ impl Scan {
                 left: 0,
                 ended: false,
             },
-            buffer: Vec::with_capacity(alloc, GREATEST_GROUP)?,
+            buffer: Vec::with_capacity(alloc, MAX_GROUP)?,
             group: None,
         })
     }

@@ -66,6 +66,7 @@ all_more : (model : Script) (l : Line) → AreWithin model → IsLine l → AreW
 all_more [] l h is = (is, tt)
 all_more (x ∷ model) l h is = (h.0, all_more model l h.1 is)
 
+-- with a line more that is within the limits, the script is still
 pub within_more : (model : Script) (l : ReadLine) → AreWithin model → IsWithin l → AreWithin (model ++ read_line_of l ∷ [])
 within_more model l h is = all_more model (read_line_of l) h (line_within l is)
 
@@ -90,6 +91,7 @@ shape_within checkpoint h = refl
 shape_within audit h = refl
 shape_within restart h = refl
 
+-- a script within the limits names no session but those that may be
 pub sessions_within : (model : Script) → AreWithin model → list_all has_session (map shape_of model) ≡ true
 sessions_within [] h = refl
 sessions_within (l ∷ model) h = both (has_session (shape_of l)) (list_all has_session (map shape_of model)) (shape_within l h.0) (sessions_within model h.1)
@@ -118,6 +120,7 @@ said_behind (x ∷ model) l =
     said_first x (model ++ l ∷ []) ∙ ap (λ n. said (shape_of x ∷ []) + n) (said_behind model l)
     ∙ (let one = said_first x model in omega (arith, one))
 
+-- with a line more, a script has as many statements as before, and the line's
 pub said_more : (model : Script) (l : Line) → said (map shape_of (model ++ l ∷ [])) ≡ with_statement l (said (map shape_of model))
 said_more model l = said_behind model l ∙ one_said l (said (map shape_of model))
 
@@ -145,6 +148,7 @@ by_places : (lists : List (Vec Statement Global)) → ((k : ℕ) → IfSome (sli
 by_places [] h = refl
 by_places (v ∷ lists) h = both (are_numbered v) (list_all are_numbered lists) (h 0) (by_places lists (λ k. h (suc k)))
 
+-- the statements of a script within the limits name documents from 1 on
 pub documents_within : (lists : List (Vec Statement Global)) (model : Script) → AreLists lists model → AreWithin model → list_all are_numbered lists ≡ true
 documents_within lists model are within = by_places lists (λ k. on k (slice_get lists k) (are k))
   where

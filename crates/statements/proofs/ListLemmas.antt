@@ -14,14 +14,17 @@ use Rattle.statements.specs.declared.script.Line as declared_line
 
 -- ---- calls that may fail
 
+-- what follows from what holds where a call is Ok holds there too
 pub on_ok : {A E : Type 0} {P Q : Type 0} (r : Result A E) → OnOk r P → (P → Q) → OnOk r Q
 on_ok (Ok x) h f = f h
 on_ok (Err e) h f = tt
 
+-- and what follows from two such facts
 pub both_ok : {A E : Type 0} {P Q R : Type 0} (r : Result A E) → OnOk r P → OnOk r Q → (P → Q → R) → OnOk r R
 both_ok (Ok x) h g f = f h g
 both_ok (Err e) h g f = tt
 
+-- what holds where a call is Ok holds where the call is no error
 pub where_ok : {A E : Type 0} {P : Type 0} (r : Result A E) → OnOk r P → is_err r ≡ false → P
 where_ok (Ok x) p h = p
 where_ok (Err e) p h = cc
@@ -56,6 +59,7 @@ same_twice : (o : Option (Vec Statement Global)) → IfSome o (λ w. IfSome o (�
 same_twice None = tt
 same_twice (Some v) = refl
 
+-- a statement put behind a session's list, which is written back, makes that list longer by it
 pub grown : (old : List (Vec Statement Global)) (s i : ℕ) (v w : Vec Statement Global) (st : Statement) → i + 1 ≡ s → i < length old → v ≡ get_or old i v → w.items ≡ v.items ++ st ∷ []
     → IsGrown old (set old i w) s (statement_of st)
 grown old s i v w st next within is more = (as_many old i w, λ k. by_test k (eqb s (k + 1)) refl)
@@ -92,6 +96,7 @@ shapes_more (x ∷ ls) l = ap (λ xs. shape_of x ∷ xs) (shapes_more ls l)
 abbrev pub IsUnsaid : Line → Type 0
 IsUnsaid l = (s : ℕ) → statements s (l ∷ []) ≡ []
 
+-- a line that isn't said leaves the lists those of the script
 pub lists_unsaid : (lists : List (Vec Statement Global)) (model : Script) (l : Line) → IsUnsaid l → AreLists lists model → AreLists lists (model ++ l ∷ [])
 lists_unsaid lists model l none h k = on (slice_get lists k) (h k)
   where
@@ -99,6 +104,7 @@ lists_unsaid lists model l none h k = on (slice_get lists k) (h k)
     on None g = tt
     on (Some v) g = g ∙ sym (statements_more (k + 1) model l ∙ ap (λ xs. statements (k + 1) model ++ xs) (none (k + 1)) ∙ append-nil (statements (k + 1) model))
 
+-- a line that is said makes its session's list longer by its statement
 pub lists_said : (old new : List (Vec Statement Global)) (model : Script) (s : ℕ) (driven : Bool) (st : journal.Statement) → IsGrown old new s st → AreLists old model → AreLists new (model ++ say s driven st ∷ [])
 lists_said old new model s driven st g h k = on (slice_get new k) refl (slice_get old k) refl (g.1 k) (h k)
   where
@@ -116,6 +122,7 @@ lists_said old new model s driven st g h k = on (slice_get new k) refl (slice_ge
         cc
     on (Some w) e (Some v) f a b = last (eqb s (k + 1)) (texts_in w) (texts_in v) (statements (k + 1) model) a b ∙ sym (statements_more (k + 1) model (say s driven st))
 
+-- a line's shape behind those of a script is the shape of the script with the line
 pub script_more : (lines more : List declared_line.Line) (model : Script) (l : Line) → lines ≡ map shape_of model → more ≡ lines ++ shape_of l ∷ [] → more ≡ map shape_of (model ++ l ∷ [])
 script_more lines more model l h e = e ∙ ap (λ xs. xs ++ shape_of l ∷ []) h ∙ sym (shapes_more model l)
 
@@ -136,10 +143,12 @@ few_on s n model checkpoint h = few_same (statements s model) n h
 few_on s n model audit h = few_same (statements s model) n h
 few_on s n model restart h = few_same (statements s model) n h
 
+-- with a line more, a session has at most as many statements as before, and the line's
 pub few_more : (s n : ℕ) (model : Script) (l : Line) → length (statements s model) ≤ n → length (statements s (model ++ l ∷ [])) ≤ with_statement l n
 few_more s n model l h = rw (statements_more s model l) (few_on s n model l h)
 
 -- ---- a text of two parts
 
+-- two parts put behind bytes one by one are put behind them together
 pub two_parts : (old mid new words one two : List ℕ) → mid ≡ old ++ words → one ≡ two → new ≡ mid ++ one → new ≡ old ++ (words ++ two)
 two_parts old mid new words one two first same second = second ∙ ap (λ xs. xs ++ one) first ∙ append_assoc old words one ∙ ap (λ xs. old ++ (words ++ xs)) same

@@ -5,7 +5,7 @@
 use Rattle.std.specs.Prelude.{ℕ, ◌+◌, ◌&&◌, Bool, true, List, [], ◌∷◌, Vec, nat_le}
 use Rattle.std.specs.List.{list_all}
 use Rattle.std.specs.declared.alloc.Global.{Global}
-use Rattle.journal_model.specs.StatementText.{greatest_session}
+use Rattle.journal_model.specs.StatementText.{max_session}
 use Rattle.statements.specs.declared.script.Line.{Line}
 use Rattle.statements.specs.declared.script.Line.TheVariants as line
 use Rattle.statements.specs.declared.statement.Call.{Call}
@@ -16,7 +16,7 @@ use Rattle.statements.specs.declared.statement.Statement.{Statement}
 use Rattle.statements.specs.declared.statement.Statement.TheVariants as statement
 
 abbrev pub is_session : ℕ → Bool
-is_session s = nat_le 1 s && nat_le s greatest_session
+is_session s = nat_le 1 s && nat_le s max_session
 
 abbrev pub has_session : Line → Bool
 has_session (line.Say s driven) = is_session s.0

@@ -6,7 +6,7 @@ use Rattle.std.specs.Prelude.{◌≡◌, ◌≤◌, ◌+◌, ℕ, List, [], ◌�
 use Rattle.std.specs.declared.alloc.Global.{Global}
 use Rattle.journal_model.specs.Journal as journal
 use Rattle.statements.specs.Forms.{statement_of}
-use Rattle.journal_model.specs.StatementText.{greatest_session}
+use Rattle.journal_model.specs.StatementText.{max_session}
 use Rattle.statements.specs.Limits.{is_numbered}
 use Rattle.statements.specs.declared.script.Line.{Line}
 use Rattle.statements.specs.declared.script.Line.TheVariants as line
@@ -31,7 +31,7 @@ shape_of journal.audit = line.Audit
 shape_of journal.restart = line.Restart
 
 abbrev pub IsSession : ℕ → Type 0
-IsSession s = (1 ≤ s) × (s ≤ greatest_session)
+IsSession s = (1 ≤ s) × (s ≤ max_session)
 
 -- its session is 1 to 64, and its document has a number from 1 on
 abbrev pub IsWithin : ReadLine → Type 0
@@ -56,5 +56,5 @@ IsGrown old new s st =
 pub record ArePartsOf (lines : List Line) (lists : List (Vec Statement Global))
     (model : journal.Script) : Type 0 where
   pub lines_are : lines ≡ map shape_of model
-  pub sessions : length lists ≡ greatest_session
+  pub sessions : length lists ≡ max_session
   pub lists_are : AreLists lists model

@@ -1,8 +1,8 @@
 // A script as far as it is read.
 ghost use Rattle.std.specs.Prelude.{◌≡◌, ◌≤◌, ◌++◌, ◌∷◌, [], OnOk, IfOk, length};
 ghost use Rattle.journal_model.specs.Journal as journal;
-ghost use Rattle.journal_model.specs.ScriptText.{most_statements, with_statement};
-ghost use Rattle.journal_model.specs.StatementText.{greatest_session};
+ghost use Rattle.journal_model.specs.ScriptText.{max_statements, with_statement};
+ghost use Rattle.journal_model.specs.StatementText.{max_session};
 ghost use Rattle.statements.specs.Forms.{statement_of};
 ghost use Rattle.statements.specs.Lines.{read_line_of, shape_of, AreLists, ArePartsOf, IsGrown, IsWithin};
 
@@ -39,7 +39,7 @@ pub struct Draft {
 impl ReadLine {
     /// So many statements, with its own.
     pub fn counted(&self, count: usize) -> usize
-        requires { count ≤ most_statements }
+        requires { count ≤ max_statements }
         ensures { result ≡ with_statement (read_line_of self.now) count }
     {
         match self {
@@ -91,10 +91,10 @@ fn push_said(
 // The statement of a line, where it has one.
 fn push_statement(lists: &mut Vec<Vec<Statement>>, line: ReadLine) -> Result<(), AllocError>
     requires within { IsWithin line }
-    requires count { length lists.old.items ≡ greatest_session }
+    requires count { length lists.old.items ≡ max_session }
     ensures more { (model : journal.Script) → AreLists lists.old.items model
         → OnOk result (AreLists lists.new.items (model ++ read_line_of line ∷ [])) }
-    ensures count { OnOk result (length lists.new.items ≡ greatest_session) }
+    ensures count { OnOk result (length lists.new.items ≡ max_session) }
 {
     match line {
         ReadLine::Say {
@@ -126,7 +126,7 @@ impl Draft {
     /// One line more.
     pub fn push(&mut self, line: ReadLine) -> Result<(), AllocError>
         requires within { IsWithin line }
-        requires count { length self.old.statements.items ≡ greatest_session }
+        requires count { length self.old.statements.items ≡ max_session }
         ensures { (model : journal.Script)
             → ArePartsOf self.old.lines.items self.old.statements.items model
             → OnOk result (ArePartsOf self.new.lines.items self.new.statements.items

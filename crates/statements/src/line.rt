@@ -1,6 +1,6 @@
 // One line of a script.
 ghost use Rattle.std.specs.Prelude.{◌≡◌, ◌≤◌, IfOk, true};
-ghost use Rattle.journal_model.specs.ScriptText.{document as not_there, found, document_number as number_of, is_taken, session_by, said_by, step_by, dotted_by, line_by, most_statements, with_statement, if_built as if_taken, read_statement as statement_read};
+ghost use Rattle.journal_model.specs.ScriptText.{document as not_there, found, document_number as number_of, is_taken, session_by, said_by, step_by, dotted_by, line_by, max_statements, with_statement, if_built as if_taken, read_statement as statement_read};
 ghost use Rattle.statements.specs.Forms.{mode_view, form_view, statement_of, table_of};
 ghost use Rattle.statements.specs.Limits.{is_numbered};
 ghost use Rattle.statements.specs.Lines.{read_line_of, IsWithin};
@@ -203,8 +203,8 @@ pub fn read_line(
     ensures gives { Gives read_line_of result
         (line_by (table_of built) (mode_view mode) count line.now) }
     ensures within { IfOk result IsWithin }
-    ensures few { count ≤ most_statements
-        → IfOk result (λ l. with_statement (read_line_of l) count ≤ most_statements) }
+    ensures few { count ≤ max_statements
+        → IfOk result (λ l. with_statement (read_line_of l) count ≤ max_statements) }
 {
     let Ok(text) = str::from_utf8(line) else {
         return Err(LineError::Bad(Cause::Utf8));

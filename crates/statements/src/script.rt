@@ -1,8 +1,8 @@
 // A script.
 ghost use Rattle.std.specs.Prelude.{◌≡◌, ◌≤◌, vec_len, true};
 ghost use Rattle.std.specs.List.{list_all};
-ghost use Rattle.journal_model.specs.ScriptText.{most_statements};
-ghost use Rattle.journal_model.specs.StatementText.{greatest_session};
+ghost use Rattle.journal_model.specs.ScriptText.{max_statements};
+ghost use Rattle.journal_model.specs.StatementText.{max_session};
 ghost use Rattle.statements.specs.Limits.{has_session, said, are_numbered};
 
 use crate::Statement;
@@ -30,9 +30,9 @@ pub enum Line {
 pub struct Script {
     lines: Vec<Line>,
     statements: Vec<Vec<Statement>>,
-    ghost lists: { vec_len statements ≡ greatest_session },
+    ghost lists: { vec_len statements ≡ max_session },
     ghost sessions: { list_all has_session lines.items ≡ true },
-    ghost few: { said lines.items ≤ most_statements },
+    ghost few: { said lines.items ≤ max_statements },
     ghost documents: { list_all are_numbered statements.items ≡ true },
 }
 
@@ -45,9 +45,9 @@ impl Script {
     ghost use Rattle.statements.specs.Scripts.{IsScript};
 
     pub(crate) fn new(lines: Vec<Line>, statements: Vec<Vec<Statement>>) -> Script
-        requires lists { length statements.items ≡ greatest_session }
+        requires lists { length statements.items ≡ max_session }
         requires sessions { list_all has_session lines.items ≡ true }
-        requires few { said lines.items ≤ most_statements }
+        requires few { said lines.items ≤ max_statements }
         requires documents { list_all are_numbered statements.items ≡ true }
         ensures lines { result.lines ≡ lines }
         ensures statements { result.statements ≡ statements }
@@ -59,14 +59,14 @@ impl Script {
         ensures lines { (model : journal.Script) → IsScript self.now model
             → result.now ≡ map shape_of model }
         ensures sessions { list_all has_session result.now ≡ true }
-        ensures few { said result.now ≤ most_statements }
+        ensures few { said result.now ≤ max_statements }
     {
         self.lines.as_slice()
     }
 
     /// The statements of one session.
     pub fn statements(&self, session: SessionNo) -> &[Statement]
-        requires { (1 ≤ session.0) × (session.0 ≤ greatest_session) }
+        requires { (1 ≤ session.0) × (session.0 ≤ max_session) }
         ensures statements { (model : journal.Script) → IsScript self.now model
             → map statement_of result.now ≡ journal.statements session.0 model }
         ensures documents { list_all is_numbered result.now ≡ true }

@@ -250,8 +250,8 @@ fn causes_behind_all_statements(rt: HostRuntime) -> Result<(), Fail> {
 
 #[test]
 fn statements_in_the_order_of_their_lines(rt: HostRuntime) -> Result<(), Fail> {
-    let bytes =
-        b"#\r\ns1 insert 4294967295 null\r\ns1 remove 2 [\"$.a\",\"$[3]\"]\n\ns1 delete 3\ns1 get 7";
+    let bytes = b"#\r\ns1 insert 4294967295 null\r\n\
+          s1 remove 2 [\"$.a\",\"$[3]\"]\n\ns1 delete 3\ns1 get 7";
     let script = read_script(rt.alloc(), ALONE, Mode::Turns, bytes)
         .ok()
         .ok_or("a script")?;

@@ -2,7 +2,7 @@
 ghost use Rattle.std.specs.Prelude.{ℕ, ◌≡◌, ◌≤◌, ◌&&◌, true, List, option_map, IfSome};
 ghost use Rattle.std.specs.List.{list_any};
 ghost use Rattle.journal_model.specs.ScriptText.{begins_with, is_marked, session_text as text_of, first_word, behind, is_space, number_up_to as number_of, document_number, session_number, is_of_transaction, form_of, runs_on};
-ghost use Rattle.journal_model.specs.StatementText.{greatest_session};
+ghost use Rattle.journal_model.specs.StatementText.{max_session};
 ghost use Rattle.statements.specs.Forms.{form_view};
 
 use crate::Level;
@@ -125,7 +125,7 @@ pub fn document_number(word: &str) -> Option<u32>
 /// The number behind the `s` of a line's first word.
 pub fn session_number(word: &str) -> Option<u8>
     ensures number { result ≡ session_number word.now }
-    ensures within { IfSome result (λ n. (1 ≤ n) × (n ≤ greatest_session)) }
+    ensures within { IfSome result (λ n. (1 ≤ n) × (n ≤ max_session)) }
 {
     match number_up_to(u32::from(MAX_SESSIONS), word) {
         Some(number) => Some(number as u8),

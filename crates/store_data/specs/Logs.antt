@@ -1,5 +1,6 @@
 -- What a call makes of one undo log.
---     with_record, with_entry      a record more; on the log's newest page or on one that is added for it
+--     with_record, with_entry      a record more; on the log's newest page or on one that is added
+--                                  for it
 --     passed      purge has passed the oldest record
 use Rattle.std.specs.Prelude.{ℕ, ◌==◌, cond, List, [], ◌∷◌}
 use Rattle.page_model.specs.Pages.{Address}

@@ -18,10 +18,12 @@ use Rattle.store_model.proofs.RunLemmas.{restores, length-all_over, all_over, al
 
 -- ---- a change is begun
 
+-- a begun change is the newest of its document, in front of the changes before
 pub changes-own : (p : Plan) (row before : Row) (body : Body) (f : List Lob → List Lob) (store : Store) → MayChange p store
     → changes (on_lobs f (with_change p row before body store)) p.doc ≡ change p.trx p.place (record_of p before body) ∷ changes store p.doc
 changes-own p row before body f store may = ap (λ cs. cs ++ committed_changes p.doc store.committed) (active-with p.trx p.doc p.place (record_of p before body) store.active may.log may.idle refl)
 
+-- each other document keeps the changes that it had
 pub changes-other : (p : Plan) (row before : Row) (body : Body) (f : List Lob → List Lob) (store : Store) (d : ℕ) → d ≢ p.doc
     → changes (on_lobs f (with_change p row before body store)) d ≡ changes store d
 changes-other p row before body f store d other = ap (λ cs. cs ++ committed_changes d store.committed) (active-with_other p.trx d p.place (record_of p before body) store.active (λ e. other (sym e)))
@@ -54,6 +56,7 @@ pieces_none : (ps : List Piece) → map (piece_laid []) ps ≡ ps
 pieces_none [] = refl
 pieces_none (p ∷ ps) = ap₂ (λ (vs : List Version) (qs : List Piece). let q : Piece = record { head = p.head; older = vs } in q ∷ qs) (map-id p.older) (pieces_none ps)
 
+-- LOBs are as they were where no runs are laid over them
 pub laid_none : (lobs : List Lob) → lobs_laid [] lobs ≡ lobs
 laid_none [] = refl
 laid_none (l ∷ ls) = ap₂ (λ (ps : List Piece) (ms : List Lob). let m : Lob = record l { pieces = ps } in m ∷ ms) (pieces_none l.pieces) (laid_none ls)
@@ -95,6 +98,7 @@ pieces_back old new (p ∷ ps) pairs there =
     (ap₂ (λ (h : Version) (vs : List Version). let q : Piece = record { head = h; older = vs } in q) (version_back old new p.head pairs there.0) (versions_back old new p.older pairs there.1))
     (pieces_back old new ps pairs there.2)
 
+-- the old bytes laid over the new ones give back the LOBs before the change in place
 pub lobs_taken_back : (old new : List Run) (lobs : List Lob) → ArePaired old new → StandThere old lobs → lobs_laid old (lobs_laid new lobs) ≡ lobs
 lobs_taken_back old new [] pairs there = refl
 lobs_taken_back old new (l ∷ ls) pairs there =
@@ -102,10 +106,12 @@ lobs_taken_back old new (l ∷ ls) pairs there =
 
 -- ---- the planning events
 
+-- what holds of every row holds of the rows behind the newest
 pub all_of : (P : Row → Type 0) (cs : List Change) → ((row : Row) → P row) → AllBefore P cs
 all_of P [] each = tt
 all_of P (c ∷ cs) each = (each c.undo.before, all_of P cs each)
 
+-- what follows row by row from a fact holds of all rows of a document that the fact holds of
 pub rows_so : (P Q : Row → Type 0) (store : Store) (d : ℕ) → ((row : Row) → P row → Q row) → AllRows P store d → AllRows Q store d
 rows_so P Q store d so all = (so (row_before store d) all.0, all-rows P Q (changes store d) so all.1)
 
@@ -117,18 +123,22 @@ back_by body f store d none same =
     ∙ ap (λ ls. history_on ls (row_before store d) (changes store d)) (laid_none (f store.lobs))
     ∙ sym (history-same store.lobs (f store.lobs) (row_before store d) (changes store d) same.0 same.1)
 
+-- an insert adds a row to its document's history and leaves the others, where its LOB is no live
+-- row's, newest or older
 pub insert_begins : (p : Plan) (lob : Lob) (n : ℕ) (store : Store) → MayChange p store → IsUnnamed lob.page store → Begins p store (insert_begun p lob n store)
 insert_begins p lob n store may unnamed =
     let f : List Lob → List Lob = λ ls. ls ++ lob ∷ [] in
     let same : (d : ℕ) → AllRows (SameParts store.lobs (f store.lobs)) store d = λ d. rows_so (IsElsewhere lob.page) (SameParts store.lobs (f store.lobs)) store d (same-with store.lobs lob) (unnamed d) in
     begins p (new_row p lob.page n) (inserted lob.page) f store may (λ row. refl) (back_by (inserted lob.page) f store p.doc refl (same p.doc)) (λ d other. same d)
 
+-- so does a change of kind Full, where its new LOB is no live row's
 pub rebuild_begins : (p : Plan) (lob : Lob) (n : ℕ) (store : Store) → MayChange p store → IsUnnamed lob.page store → Begins p store (rebuild_begun p lob n store)
 rebuild_begins p lob n store may unnamed =
     let f : List Lob → List Lob = λ ls. ls ++ lob ∷ [] in
     let same : (d : ℕ) → AllRows (SameParts store.lobs (f store.lobs)) store d = λ d. rows_so (IsElsewhere lob.page) (SameParts store.lobs (f store.lobs)) store d (same-with store.lobs lob) (unnamed d) in
     begins p (new_row p lob.page n) (rebuilt lob.page) f store may (λ row. refl) (back_by (rebuilt lob.page) f store p.doc refl (same p.doc)) (λ d other. same d)
 
+-- so does a change of kind Versioned, which begins by raising the LOB's version alone
 pub version_begins : (p : Plan) (pieces : ℕ) (touched : List ℕ) (store : Store) → MayChange p store → Begins p store (version_begun p pieces touched store)
 version_begins p pieces touched store may =
     let page = (row_before store p.doc).lob.page in
@@ -138,9 +148,12 @@ version_begins p pieces touched store may =
     let same : (d : ℕ) → AllRows (SameParts store.lobs (f store.lobs)) store d = λ d. (one (row_before store d), all_of (SameParts store.lobs (f store.lobs)) (changes store d) one) in
     begins p (raised_row p) (versioned pieces touched) f store may (λ row. refl) (back_by (versioned pieces touched) f store p.doc refl (same p.doc)) (λ d other. same d)
 
+-- a row that runs don't touch has the same parts where they are laid over the LOBs
 pub untouched_same : (rs : List Run) (lobs : List Lob) (row : Row) → IsUntouched rs lobs row → SameParts lobs (lobs_laid rs lobs) row
 untouched_same rs lobs row untouched is_live = sym (parts-laid rs lobs row.lob ∙ untouched is_live)
 
+-- a change in place adds a row to its document's history and leaves the others, where the old
+-- bytes stood in the new ones' places and no other document's rows are touched
 pub patch_begins : (p : Plan) (old new : List Run) (store : Store) → MayChange p store → ArePaired old new → StandThere old store.lobs
     → ((d : ℕ) → d ≢ p.doc → AllRows (IsUntouched new store.lobs) store d) → Begins p store (patch_made p old new store)
 patch_begins p old new store may pairs there others =
@@ -148,6 +161,7 @@ patch_begins p old new store may pairs there others =
     (ap (λ ls. history_on ls (row_before store p.doc) (changes store p.doc)) (lobs_taken_back old new store.lobs pairs there))
     (λ d other. rows_so (IsUntouched new store.lobs) (SameParts store.lobs (lobs_laid new store.lobs)) store d (untouched_same new store.lobs) (others d other))
 
+-- a deletion adds a row to its document's history and leaves the others
 pub delete_begins : (p : Plan) (store : Store) → MayChange p store → Begins p store (delete_made p store)
 delete_begins p store may =
     let one : (row : Row) → SameParts store.lobs store.lobs row = λ row is_live. refl in

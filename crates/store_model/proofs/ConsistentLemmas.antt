@@ -108,6 +108,7 @@ module _ (p : Plan) (store : Store) (all : IsConsistent store) (may : MayChange 
     rising = rising_put p.doc (deleted_row p (row_before store p.doc)) store.rows all.rising;
   }
 
+-- a store stays consistent where a log is begun on a page that isn't owned, with a new id
 pub log_begun_consistent : (trx page : ℕ) (store : Store) → IsConsistent store → store.next_trx ≤ trx → 1 ≤ trx → IsNotAmong page (owned store) → IsConsistent (log_begun trx page store)
 log_begun_consistent trx page store all up some none = record {
   well = well_log_begun trx page store all.well all.ids up;
@@ -168,6 +169,7 @@ module _ (page : ℕ) (l : Lob) (store : Store) (all : IsConsistent store) (ther
 
 -- ---- commit, rollback, purge
 
+-- a store stays consistent where a transaction is committed
 pub commit_consistent : (trx : ℕ) (store : Store) → IsConsistent store → IsConsistent (committed_by trx store)
 commit_consistent trx store all = record {
   well = well_commit trx store all.well;
@@ -182,6 +184,7 @@ commit_consistent trx store all = record {
     rows None = all.rising
     rows (Some l) = all.rising
 
+-- so where the newest record of a transaction is undone, once no entry of a raised version is left
 pub undo_consistent : (trx : ℕ) (place : Address) (u : Record) (store : Store) → IsConsistent store → IsNewest trx place u store → IsLowered u.body u.before store.lobs → IsConsistent (undo_ended trx u store)
 undo_consistent trx place u store all new lowered = record {
   well = well_undo trx place u store all.well new;
@@ -207,6 +210,7 @@ rising_swept removed a trx d store all = by_test (is_newest a trx (row_of store 
     by_test true = rising_out d store.rows all
     by_test false = all
 
+-- so where purge passes the oldest record of the first committed log
 pub pass_consistent : (a : Address) (u : Record) (store : Store) (l : Log) (ls : List Log) → IsConsistent store → store.committed ≡ l ∷ ls → last_in l.records ≡ (a, u) ∷ [] → IsConsistent (record_passed a l.trx u store)
 pass_consistent a u store l ls all first oldest = record {
   well = well_passed a u store l ls all.well first oldest;
@@ -217,6 +221,7 @@ pass_consistent a u store l ls all first oldest = record {
   rising = rising_swept u.body a l.trx u.doc (on_lobs (cleared u.body u.before) store) all.rising;
 }
 
+-- so where the first committed log goes, which has no records left
 pub purged_consistent : (store : Store) (l : Log) (ls : List Log) → IsConsistent store → store.committed ≡ l ∷ ls → l.records ≡ [] → IsConsistent (log_purged store)
 purged_consistent store l ls all first none = record {
   well = well_purged store l ls all.well first none;
@@ -227,6 +232,7 @@ purged_consistent store l ls all first none = record {
   rising = all.rising;
 }
 
+-- so where purge of the first committed log begins
 pub begun_consistent : (store : Store) → IsConsistent store → IsConsistent (purge_begun store)
 begun_consistent store all = record {
   well = well_begun store all.well;
@@ -246,6 +252,7 @@ begun_consistent store all = record {
 
 -- ---- lists of pages
 
+-- a store stays consistent where the rows get other pages, if no page is owned twice then
 pub row_pages_consistent : (pages : List ℕ) (store : Store) → IsConsistent store → AreSound (with_row_pages pages store) → IsConsistent (with_row_pages pages store)
 row_pages_consistent pages store all sound = record {
   well = row_pages_well pages store all.well;
@@ -256,6 +263,7 @@ row_pages_consistent pages store all sound = record {
   rising = all.rising;
 }
 
+-- the same of other pages for the first committed log
 pub pages_left_consistent : (pages : List ℕ) (store : Store) → IsConsistent store → AreSound (log_pages_left pages store) → IsConsistent (log_pages_left pages store)
 pages_left_consistent pages store all sound = record {
   well = well_pages pages store all.well;
@@ -274,6 +282,7 @@ paged_lobs trx pages (l ∷ ls) = by_test (l.trx == trx) (paged_lobs trx pages l
     by_test true rest = refl
     by_test false rest = ap (λ ps. record_lobs l.records ++ ps) rest
 
+-- the same of other pages for the active log of a transaction
 pub log_pages_consistent : (trx : ℕ) (pages : List ℕ) (store : Store) → IsConsistent store → AreSound (with_log_pages trx pages store) → IsConsistent (with_log_pages trx pages store)
 log_pages_consistent trx pages store all sound = record {
   well = log_pages_well trx pages store all.well;

@@ -14,6 +14,7 @@ use Rattle.store_model.proofs.LobLemmas.{lob-on_other, lob-on_this}
 
 -- ---- no page twice
 
+-- a page that isn't in a list is there zero times
 pub times_none : (n : ℕ) (ms : List ℕ) → IsNotAmong n ms → times n ms ≡ 0
 times_none n [] none = refl
 times_none n (m ∷ ms) none = rw (ne_eqb m n none.0) (let r = times_none n ms none.1 in omega (arith, r))
@@ -31,6 +32,7 @@ none_times n (m ∷ ms) none = elim (eqb_tells m n) [
         zero_not : 1 ≤ 0 → ⊥
         zero_not h = absurd (omega arith)
 
+-- a list of different pages has each one at most once
 pub different_once : (n : ℕ) (ms : List ℕ) → AreDifferent ms → times n ms ≤ 1
 different_once n [] all = omega arith
 different_once n (m ∷ ms) all = elim (eqb_tells m n) [
@@ -38,6 +40,7 @@ different_once n (m ∷ ms) all = elim (eqb_tells m n) [
   | inr other ↦ let r = different_once n ms all.1 in let e : one_if (m == n) ≡ 0 = ap one_if other.0 in omega (arith, r, e)
 ]
 
+-- a list that has each page at most once is one of different pages
 pub once_different : (ms : List ℕ) → ((n : ℕ) → times n ms ≤ 1) → AreDifferent ms
 once_different [] once = tt
 once_different (m ∷ ms) once = (
@@ -47,14 +50,17 @@ once_different (m ∷ ms) once = (
 
 -- ---- weights of LOBs
 
+-- the sum of the weights of a list's pages
 abbrev pub sum_of : (ℕ → ℕ) → List ℕ → ℕ
 sum_of w [] = 0
 sum_of w (p ∷ ps) = w p + sum_of w ps
 
+-- the sum over a joined list is the sum over both its parts
 pub sum-append : (w : ℕ → ℕ) (xs ys : List ℕ) → sum_of w (xs ++ ys) ≡ sum_of w xs + sum_of w ys
 sum-append w [] ys = omega arith
 sum-append w (x ∷ xs) ys = let r = sum-append w xs ys in omega (arith, r)
 
+-- weights that agree on each page of a list have the same sum over it
 pub sum_same : (v w : ℕ → ℕ) (ps : List ℕ) → ((p : ℕ) → IsAmong p ps → v p ≡ w p) → sum_of v ps ≡ sum_of w ps
 sum_same v w [] same = refl
 sum_same v w (p ∷ ps) same = ap₂ (λ (a b : ℕ). a + b) (same p (inl refl)) (sum_same v w ps (λ q there. same q (inr there)))
@@ -63,6 +69,7 @@ sum_same v w (p ∷ ps) same = ap₂ (λ (a b : ℕ). a + b) (same p (inl refl))
 abbrev pub weight : List Lob → ℕ → ℕ → ℕ
 weight lobs n page = times n (page ∷ rest_of (lob_of lobs page))
 
+-- a page is among those of LOBs as often as it is among those of each, summed up
 pub times-lob_pages : (n : ℕ) (lobs : List Lob) (ps : List ℕ) → times n (lob_pages lobs ps) ≡ sum_of (weight lobs n) ps
 times-lob_pages n lobs [] = refl
 times-lob_pages n lobs (p ∷ ps) = times-append n (p ∷ rest_of (lob_of lobs p)) (lob_pages lobs ps) ∙ ap (λ (m : ℕ). weight lobs n p + m) (times-lob_pages n lobs ps)
@@ -92,6 +99,7 @@ sum_on n page f lobs l (p ∷ ps) same there all among = elim (cases_eq p page) 
 
 -- ---- what each change of a piece takes or gives
 
+-- a page is among the data of joined pieces as often as among those of both lists
 pub pieces-append : (n first : ℕ) (ps qs : List Piece) → times n (piece_pages first (ps ++ qs)) ≡ times n (piece_pages first ps) + times n (piece_pages first qs)
 pieces-append n first [] qs = omega arith
 pieces-append n first (p ∷ ps) qs =
@@ -99,6 +107,7 @@ pieces-append n first (p ∷ ps) qs =
     let a = times-append n (data_pages first (p.head ∷ p.older)) (piece_pages first (ps ++ qs)) in
     let b = times-append n (data_pages first (p.head ∷ p.older)) (piece_pages first ps) in omega (arith, r, a, b)
 
+-- a page is among the data of joined versions as often as among those of both lists
 pub data-append : (n first : ℕ) (vs ws : List Version) → times n (data_pages first (vs ++ ws)) ≡ times n (data_pages first vs) + times n (data_pages first ws)
 data-append n first [] ws = omega arith
 data-append n first (v ∷ vs) ws =
@@ -106,6 +115,7 @@ data-append n first (v ∷ vs) ws =
 
 -- ---- rows in rising order
 
+-- the comparison of two numbers tells which of less, equal and greater holds
 pub cmp_tells : (a b : ℕ) → ((nat_cmp a b ≡ Less) × (a < b)) ⊎ (((nat_cmp a b ≡ Equal) × (a ≡ b)) ⊎ ((nat_cmp a b ≡ Greater) × (b < a)))
 cmp_tells a b = elim (ltb_tells a b) [
   | inl low ↦ inl (rw low.0 refl, low.1)

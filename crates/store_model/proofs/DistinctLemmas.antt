@@ -14,14 +14,17 @@ use Rattle.store_model.proofs.LogLemmas.{among_other, active-with_other, nil_par
 
 -- ---- different transactions
 
+-- a transaction that has no log in a joined list has none in either part
 pub none_parts : (x : ℕ) (ls ms : List Log) → NoLog x (ls ++ ms) → NoLog x ls × NoLog x ms
 none_parts x [] ms none = (tt, none)
 none_parts x (l ∷ ls) ms none = let r = none_parts x ls ms none.1 in ((none.0, r.0), r.1)
 
+-- a transaction that has no log in either part has none in the joined list
 pub none_join : (x : ℕ) (ls ms : List Log) → NoLog x ls → NoLog x ms → NoLog x (ls ++ ms)
 none_join x [] ms a b = b
 none_join x (l ∷ ls) ms a b = (a.0, none_join x ls ms a.1 b)
 
+-- a transaction gets no log where one changes and keeps its own transaction
 pub none_on : (trx x : ℕ) (f : Log → Log) (ls : List Log) → ((l : Log) → (f l).trx ≡ l.trx) → NoLog x ls → NoLog x (on_log trx f ls)
 none_on trx x f [] same none = tt
 none_on trx x f (l ∷ ls) same none = by_test (l.trx == trx) (none_on trx x f ls same none.1)
@@ -30,6 +33,7 @@ none_on trx x f (l ∷ ls) same none = by_test (l.trx == trx) (none_on trx x f l
     by_test true rest = ((λ e. none.0 (sym (same l) ∙ e)), none.1)
     by_test false rest = (none.0, rest)
 
+-- logs stay of different transactions where one of the first part changes and keeps its own
 pub distinct_on : (trx : ℕ) (f : Log → Log) (ls ms : List Log) → ((l : Log) → (f l).trx ≡ l.trx) → AreDistinct (ls ++ ms) → AreDistinct (on_log trx f ls ++ ms)
 distinct_on trx f [] ms same all = all
 distinct_on trx f (l ∷ ls) ms same all = by_test (l.trx == trx) (distinct_on trx f ls ms same all.1)
@@ -38,6 +42,7 @@ distinct_on trx f (l ∷ ls) ms same all = by_test (l.trx == trx) (distinct_on t
     by_test true rest = (subst (λ x. NoLog x (ls ++ ms)) (sym (same l)) all.0, all.1)
     by_test false rest = let r = none_parts l.trx ls ms all.0 in (none_join l.trx (on_log trx f ls) ms (none_on trx l.trx f ls same r.0) r.1, rest)
 
+-- a transaction that has no log has none where one is taken out
 pub none_without : (trx x : ℕ) (ls : List Log) → NoLog x ls → NoLog x (without_log trx ls)
 none_without trx x [] none = tt
 none_without trx x (l ∷ ls) none = by_test (l.trx == trx) (none_without trx x ls none.1)
@@ -46,6 +51,7 @@ none_without trx x (l ∷ ls) none = by_test (l.trx == trx) (none_without trx x 
     by_test true rest = none.1
     by_test false rest = (none.0, rest)
 
+-- nor where a log loses its newest record
 pub none_popped : (trx x : ℕ) (ls : List Log) → NoLog x ls → NoLog x (without_record trx ls)
 none_popped trx x [] none = tt
 none_popped trx x (l ∷ ls) none = by_test (l.trx == trx) (none_popped trx x ls none.1)
@@ -58,6 +64,7 @@ none_popped trx x (l ∷ ls) none = by_test (l.trx == trx) (none_popped trx x ls
     by_test true rest = by_records (all_but_first l.records)
     by_test false rest = (none.0, rest)
 
+-- logs stay of different transactions where one of the first part loses its newest record
 pub distinct_popped : (trx : ℕ) (ls ms : List Log) → AreDistinct (ls ++ ms) → AreDistinct (without_record trx ls ++ ms)
 distinct_popped trx [] ms all = all
 distinct_popped trx (l ∷ ls) ms all = by_test (l.trx == trx) (distinct_popped trx ls ms all.1)
@@ -86,6 +93,7 @@ there_parts trx x (m ∷ ms) l there none = by_test (m.trx == trx) there (λ h. 
     by_test true h rest = λ e. none.0 (ap (λ (n : Log). n.trx) (Some_same m l h) ∙ e)
     by_test false h rest = rest h
 
+-- so where one of the first part goes behind all other logs and keeps its transaction
 pub distinct_moved : (trx : ℕ) (ls ms : List Log) (l l' : Log) → log_of ls trx ≡ Some l → l'.trx ≡ l.trx → AreDistinct (ls ++ ms) → AreDistinct (without_log trx ls ++ (ms ++ l' ∷ []))
 distinct_moved trx [] ms l l' there same all = absurd (None_not_Some there)
 distinct_moved trx (m ∷ ns) ms l l' there same all = by_test (m.trx == trx) there (λ h. distinct_moved trx ns ms l l' h same all.1)
@@ -101,11 +109,13 @@ none_first : (x : ℕ) (f : Log → Log) (ls : List Log) → ((l : Log) → (f l
 none_first x f [] same none = tt
 none_first x f (l ∷ ls) same none = ((λ e. none.0 (sym (same l) ∙ e)), none.1)
 
+-- logs stay of different transactions where the first of the second part keeps its own
 pub distinct_first : (f : Log → Log) (ls ms : List Log) → ((l : Log) → (f l).trx ≡ l.trx) → AreDistinct (ls ++ ms) → AreDistinct (ls ++ on_first f ms)
 distinct_first f [] [] same all = all
 distinct_first f [] (m ∷ ms) same all = (subst (λ x. NoLog x ms) (sym (same m)) all.0, all.1)
 distinct_first f (l ∷ ls) ms same all = let r = none_parts l.trx ls ms all.0 in (none_join l.trx ls (on_first f ms) r.0 (none_first l.trx f ms same r.1), distinct_first f ls ms same all.1)
 
+-- so where the first of the second part goes
 pub distinct_rest : (ls ms : List Log) → AreDistinct (ls ++ ms) → AreDistinct (ls ++ all_but_first ms)
 distinct_rest [] [] all = all
 distinct_rest [] (m ∷ ms) all = all.1
@@ -122,6 +132,7 @@ none_idle : (trx d : ℕ) (ls : List Log) → OthersIdle trx d ls → NoLog trx 
 none_idle trx d [] idle none = refl
 none_idle trx d (l ∷ ls) idle none = ap₂ (λ (a b : List Change). a ++ b) (idle.0 none.0) (none_idle trx d ls idle.1 none.1)
 
+-- a document is locked where a record is appended to the one log that may have its changes
 pub locked_with : (trx d : ℕ) (place : Address) (u : Record) (ls : List Log) → AreDistinct ls → OthersIdle trx d ls → IsLocked d (on_log trx (with_record place u) ls)
 locked_with trx d place u [] all idle = tt
 locked_with trx d place u (l ∷ ls) all idle = by_test (eqb_tells l.trx trx) (locked_with trx d place u ls all.1 idle.1)
@@ -130,6 +141,7 @@ locked_with trx d place u (l ∷ ls) all idle = by_test (eqb_tells l.trx trx) (l
     by_test (inl same) rest = rw same.0 (inr (none_idle trx d ls idle.1 (subst (λ x. NoLog x ls) same.1 all.0)))
     by_test (inr other) rest = rw other.0 (inl (idle.0 other.1, rest))
 
+-- a locked document stays so where a record of another document is appended
 pub locked_with_other : (trx d : ℕ) (place : Address) (u : Record) (ls : List Log) → u.doc ≢ d → IsLocked d ls → IsLocked d (on_log trx (with_record place u) ls)
 locked_with_other trx d place u [] other locked = tt
 locked_with_other trx d place u (l ∷ ls) other locked = by_test (l.trx == trx) locked (locked_with_other trx d place u ls other)
@@ -175,6 +187,7 @@ popped_none trx d (l ∷ ls) none = by_test (l.trx == trx) (nil_parts (log_chang
     by_test true both rest = shrunk_none d l (all_but_first l.records) ls (among_rest d l.trx l.records both.0) both.1
     by_test false both rest = ap₂ (λ (a b : List Change). a ++ b) both.0 (rest both.1)
 
+-- a locked document stays so where a log is taken out
 pub locked_without : (trx d : ℕ) (ls : List Log) → IsLocked d ls → IsLocked d (without_log trx ls)
 locked_without trx d [] locked = tt
 locked_without trx d (l ∷ ls) locked = by_test (l.trx == trx) locked (locked_without trx d ls)
@@ -191,6 +204,7 @@ shrunk_locked d l [] ls (inr h) = none_locked d ls h
 shrunk_locked d l (u ∷ us) ls (inl h) = inl h
 shrunk_locked d l (u ∷ us) ls (inr h) = inr h
 
+-- a locked document stays so where a log loses its newest record
 pub locked_popped : (trx d : ℕ) (ls : List Log) → IsLocked d ls → IsLocked d (without_record trx ls)
 locked_popped trx d [] locked = tt
 locked_popped trx d (l ∷ ls) locked = by_test (l.trx == trx) locked (locked_popped trx d ls)

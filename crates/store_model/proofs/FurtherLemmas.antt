@@ -23,12 +23,14 @@ older_same old new row (c ∷ cs) same =
     history-same (lobs_laid (old_runs c.undo.body) old) (lobs_laid (old_runs c.undo.body) new) c.undo.before cs
     (all-laid (old_runs c.undo.body) old new (c ∷ cs) same).0 (all-laid (old_runs c.undo.body) old new (c ∷ cs) same).1
 
+-- where LOBs change, a document's older rows show the same if each finds the same parts
 pub keeps_older : (f : List Lob → List Lob) (store : Store) (d : ℕ) → AllBefore (SameParts store.lobs (f store.lobs)) (changes store d) → KeepsOlder d store (on_lobs f store)
 keeps_older f store d same =
     ap all_but_first (history-on (f store.lobs) (row_before store d) (changes store d))
     ∙ sym (older_same store.lobs (f store.lobs) (row_before store d) (changes store d) same)
     ∙ sym (ap all_but_first (history-on store.lobs (row_before store d) (changes store d)))
 
+-- so its whole history, if its newest row does too
 pub keeps_all : (f : List Lob → List Lob) (store : Store) (d : ℕ) → AllRows (SameParts store.lobs (f store.lobs)) store d → KeepsAll d store (on_lobs f store)
 keeps_all f store d same =
     history-on (f store.lobs) (row_before store d) (changes store d)
@@ -51,24 +53,28 @@ same_pushed page k node v index free lobs row below =
     (λ is_live here l there. parts-on_piece k (pushed node v) l.pieces row.lob.version
     (at_each k (λ p. part_list (piece_at (pushed node v p) row.lob.version) ≡ part_list (piece_at p row.lob.version)) l.pieces (λ p. piece-pushed node v p row.lob.version (below is_live here))))
 
+-- a version pushed leaves the older rows' history, if each is of a version below or of another LOB
 pub push_keeps_older : (page k : ℕ) (node : Address) (v : Version) (index : List ℕ) (free : List Address) (store : Store) (d : ℕ)
     → AllBefore (IsBelow page v.number) (changes store d) → KeepsOlder d store (version_pushed page k node v index free store)
 push_keeps_older page k node v index free store d below =
     keeps_older (on_lob page (λ l. with_nodes index free (at_piece k (pushed node v) l))) store d
     (all-rows (IsBelow page v.number) _ (changes store d) (same_pushed page k node v index free store.lobs) below)
 
+-- and the whole history, where the newest row is such a one too
 pub push_keeps_all : (page k : ℕ) (node : Address) (v : Version) (index : List ℕ) (free : List Address) (store : Store) (d : ℕ)
     → AllRows (IsBelow page v.number) store d → KeepsAll d store (version_pushed page k node v index free store)
 push_keeps_all page k node v index free store d below =
     keeps_all (on_lob page (λ l. with_nodes index free (at_piece k (pushed node v) l))) store d
     (rows_so (IsBelow page v.number) _ store d (same_pushed page k node v index free store.lobs) below)
 
+-- a piece added leaves the older rows' history, if each has another LOB
 pub piece_keeps_older : (page : ℕ) (piece : Piece) (index : List ℕ) (free : List Address) (store : Store) (d : ℕ)
     → AllBefore (IsElsewhere page) (changes store d) → KeepsOlder d store (piece_added page piece index free store)
 piece_keeps_older page piece index free store d elsewhere =
     keeps_older (on_lob page (λ l. with_nodes index free (with_piece piece l))) store d
     (all-rows (IsElsewhere page) _ (changes store d) (same_elsewhere page (λ l. with_nodes index free (with_piece piece l)) store.lobs (λ l. refl)) elsewhere)
 
+-- and the whole history, where the newest row has another LOB too
 pub piece_keeps_all : (page : ℕ) (piece : Piece) (index : List ℕ) (free : List Address) (store : Store) (d : ℕ)
     → AllRows (IsElsewhere page) store d → KeepsAll d store (piece_added page piece index free store)
 piece_keeps_all page piece index free store d elsewhere =
@@ -81,6 +87,7 @@ newest_parts : (ps : List Piece) (v : ℕ) → AreSeen v ps → parts_at ps v �
 newest_parts [] v all = refl
 newest_parts (p ∷ ps) v all = rw (le-leb p.head.number v all.0) (ap (λ (xs : List Part). part_of p.head ∷ xs) (newest_parts ps v all.1))
 
+-- a live row at whose version all heads are seen shows the bytes of the heads
 pub newest_content : (lobs : List Lob) (row : Row) (l : Lob) → row.state ≡ live → lob_of lobs row.lob.page ≡ Some l → AreSeen row.lob.version l.pieces
     → content lobs row ≡ Some (joined (heads l.pieces))
 newest_content lobs row l is_live there all =

@@ -36,6 +36,7 @@ keep_above d (r ∷ rs) all = ap (λ (b : Bool). cond (not b) (r ∷ where_key n
     none : 1 ≤ 0 → ⊥
     none h = absurd (omega arith)
 
+-- where a document's row goes, the sum over LOBs that rows own is less by what it owned
 pub out_sum : (w : ℕ → ℕ) (d : ℕ) (rs : List (ℕ × Row)) → AreRising rs
     → sum_of w (row_lobs (where_key nat_cmp (λ n. not (n == d)) rs)) + sum_of w (owned_row (unwrap_or (find nat_cmp d rs) absent_row)) ≡ sum_of w (row_lobs rs)
 out_sum w d [] all = refl
@@ -113,6 +114,7 @@ module _ (trx : ℕ) (place : Address) (u : Record) (store : Store) (rising : Ar
 
 -- ---- one LOB less, or none
 
+-- one for each time that a page is in a list sums up to how often it is there
 pub ind_times : (n : ℕ) (ps : List ℕ) → sum_of (λ q. one_if (q == n)) ps ≡ times n ps
 ind_times n [] = refl
 ind_times n (p ∷ ps) = ap (λ (m : ℕ). one_if (p == n) + m) (ind_times n ps)
@@ -138,6 +140,8 @@ freed_once page qs ps less all q there same =
       | inr rest ↦ let x = among_times n ms rest in omega (arith, x)
     ]
 
+-- a store that loses one owned LOB, and owns a page x times less apart from LOBs, owns it less by
+-- these x times and by the times that it is among the LOB's pages
 pub gives_lob : (page x n : ℕ) (store after : Store) → AreSound store → ((w : ℕ → ℕ) → sum_of w (owned_lobs after) + w page ≡ sum_of w (owned_lobs store)) → after.lobs ≡ without_lob page store.lobs
     → fixed n after + x ≡ fixed n store → times n (owned after) + (x + times n (page ∷ rest_of (lob_of store.lobs page))) ≡ times n (owned store)
 gives_lob page x n store after sound less lobs kept =
@@ -147,6 +151,7 @@ gives_lob page x n store after sound less lobs kept =
     (λ q there. ap (λ (ms : List Lob). times n (q ∷ rest_of (lob_of ms q))) lobs ∙ ap (λ (o : Option Lob). times n (q ∷ rest_of o)) (lob-without_other q page store.lobs (freed_once page (owned_lobs after) (owned_lobs store) less (different_lobs store.lobs (owned_lobs store) (sound_lobs store sound)) q there))) in
     let d = less (weight store.lobs n) in omega (arith, a, b, c, d, kept)
 
+-- where owned LOBs and their pages stay, a page is owned less only by what it is apart from LOBs
 pub gives_none : (x n : ℕ) (store after : Store) → ((w : ℕ → ℕ) → sum_of w (owned_lobs after) ≡ sum_of w (owned_lobs store)) → ((q : ℕ) → rest_of (lob_of after.lobs q) ≡ rest_of (lob_of store.lobs q))
     → fixed n after + x ≡ fixed n store → times n (owned after) + x ≡ times n (owned store)
 gives_none x n store after same rest kept =

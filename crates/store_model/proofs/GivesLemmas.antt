@@ -44,6 +44,7 @@ made_elsewhere store d page c cs well e makes = subst (AllBefore (IsElsewhere pa
     by_kind (patched old) makes fresh = absurd makes
     by_kind removed makes fresh = absurd makes
 
+-- a document whose newest change made a LOB has a live row with this LOB
 pub made_live : (store : Store) (d page : ℕ) (c : Change) (cs : List Change) → IsWell store → changes store d ≡ c ∷ cs → Makes page c.undo.body
     → ((row_before store d).state ≡ live) × ((row_before store d).lob.page ≡ page)
 made_live store d page c cs well e makes = by_kind c.undo.body makes (newest_chain store d c cs well e).0.kind
@@ -77,6 +78,7 @@ version_below store d c cs well e versioned_so = subst (AllBefore (IsBelow row.l
     by_kind (patched old) v kind below = absurd v
     by_kind removed v kind below = absurd v
 
+-- a document whose newest change is of kind Versioned has a live row
 pub version_live : (store : Store) (d : ℕ) (c : Change) (cs : List Change) → IsWell store → changes store d ≡ c ∷ cs → IsVersioned c.undo.body → (row_before store d).state ≡ live
 version_live store d c cs well e versioned_so = by_kind c.undo.body versioned_so (newest_chain store d c cs well e).0.kind
   where

@@ -80,6 +80,7 @@ among_times n (m ∷ ms) there = elim there [
   | inr rest ↦ let x = among_times n ms rest in omega (arith, x)
 ]
 
+-- where a store's LOBs are those that it owns, one is found at each owned first page
 pub owned_there : (page : ℕ) (store : Store) → HasLobs store → IsAmong page (owned_lobs store) → is_some (lob_of store.lobs page) ≡ true
 owned_there page store held there = some_there store.lobs page (let a = held page in let b = among_times page (owned_lobs store) there in omega (arith, a, b))
 
@@ -98,18 +99,21 @@ planned_lobs n p new body f store rising may =
     let h = with_record_sum (ind n) p.trx p.place (record_of p (row_before store p.doc) body) store.active may.log in
     omega (arith, a, b, c, d, g, h)
 
+-- a store's LOBs stay those that it owns where an insert is begun for a row that isn't live
 pub insert_lobs : (p : Plan) (lob : Lob) (len : ℕ) (store : Store) → AreRising store.rows → MayChange p store → (row_before store p.doc).state ≢ live → HasLobs store → HasLobs (insert_begun p lob len store)
 insert_lobs p lob len store rising may before held n =
     let a = planned_lobs n p (new_row p lob.page len) (inserted lob.page) (λ ls. ls ++ lob ∷ []) store rising may in
     let b : sum_of (ind n) (owned_row (row_before store p.doc)) ≡ 0 = ap (sum_of (ind n)) (owned_unlive (row_before store p.doc) before) in
     let c = pages_with n store.lobs lob in let d = held n in omega (arith, a, b, c, d)
 
+-- so where a change of kind Full is begun for a live row
 pub rebuild_lobs : (p : Plan) (lob : Lob) (len : ℕ) (store : Store) → AreRising store.rows → MayChange p store → (row_before store p.doc).state ≡ live → HasLobs store → HasLobs (rebuild_begun p lob len store)
 rebuild_lobs p lob len store rising may before held n =
     let a = planned_lobs n p (new_row p lob.page len) (rebuilt lob.page) (λ ls. ls ++ lob ∷ []) store rising may in
     let b : sum_of (ind n) (owned_row (row_before store p.doc)) ≡ sum_of (ind n) ((row_before store p.doc).lob.page ∷ []) = ap (sum_of (ind n)) (owned_live (row_before store p.doc) before) in
     let c = pages_with n store.lobs lob in let d = held n in omega (arith, a, b, c, d)
 
+-- so where a change of kind Versioned is begun for a live row
 pub version_lobs : (p : Plan) (pieces : ℕ) (touched : List ℕ) (store : Store) → AreRising store.rows → MayChange p store → (row_before store p.doc).state ≡ live → HasLobs store → HasLobs (version_begun p pieces touched store)
 version_lobs p pieces touched store rising may before held n =
     let f : List Lob → List Lob = on_lob (row_before store p.doc).lob.page (at_version (suc (row_before store p.doc).lob.version)) in
@@ -119,6 +123,7 @@ version_lobs p pieces touched store rising may before held n =
     let c : times n (first_pages (f store.lobs)) ≡ times n (first_pages store.lobs) = ap (times n) (pages_on (row_before store p.doc).lob.page (at_version (suc (row_before store p.doc).lob.version)) store.lobs (λ l. refl)) in
     let d = held n in omega (arith, a, b, c, d, e)
 
+-- so where a live row's LOB is changed in place
 pub patch_lobs : (p : Plan) (old new : List Run) (store : Store) → AreRising store.rows → MayChange p store → (row_before store p.doc).state ≡ live → HasLobs store → HasLobs (patch_made p old new store)
 patch_lobs p old new store rising may before held n =
     let a = planned_lobs n p (patched_row p) (patched old) (lobs_laid new) store rising may in
@@ -127,6 +132,7 @@ patch_lobs p old new store rising may before held n =
     let c : times n (first_pages (lobs_laid new store.lobs)) ≡ times n (first_pages store.lobs) = ap (times n) (pages_laid new store.lobs) in
     let d = held n in omega (arith, a, b, c, d, e)
 
+-- so where a live row is deleted
 pub delete_lobs : (p : Plan) (store : Store) → AreRising store.rows → MayChange p store → (row_before store p.doc).state ≡ live → HasLobs store → HasLobs (delete_made p store)
 delete_lobs p store rising may before held n =
     let a = planned_lobs n p (deleted_row p) removed (λ ls. ls) store rising may in
@@ -135,12 +141,15 @@ delete_lobs p store rising may before held n =
 
 -- ---- LOBs change in place, logs begin and commit
 
+-- a store's LOBs stay those that it owns where one changes and keeps its first page
 pub lob_lobs : (page : ℕ) (f : Lob → Lob) (store : Store) → ((l : Lob) → (f l).page ≡ l.page) → HasLobs store → HasLobs (on_lobs (on_lob page f) store)
 lob_lobs page f store same held n = held n ∙ sym (ap (times n) (pages_on page f store.lobs same))
 
+-- so where a log is begun
 pub begun_lobs : (trx page : ℕ) (store : Store) → HasLobs store → HasLobs (log_begun trx page store)
 begun_lobs trx page store held n = held n
 
+-- so where a transaction is committed
 pub commit_lobs : (trx : ℕ) (store : Store) → HasLobs store → HasLobs (committed_by trx store)
 commit_lobs trx store held = by_log (log_of store.active trx) refl
   where
@@ -159,6 +168,7 @@ commit_lobs trx store held = by_log (log_of store.active trx) refl
 
 -- ---- a record is undone, or passed
 
+-- a store's LOBs stay those that it owns where a transaction's newest record is undone
 pub undo_keeps_lobs : (trx : ℕ) (place : Address) (u : Record) (store : Store) → AreRising store.rows → IsNewest trx place u store → IsWell store → AreSound store → HasLobs store → HasLobs (undo_ended trx u store)
 undo_keeps_lobs trx place u store rising new well sound held n = by_kind u.body (undo_kind trx place u store rising new well sound) (undo_lobs trx place u store rising new well sound) (undo_sum trx place u store rising new)
   where
@@ -195,6 +205,7 @@ undo_keeps_lobs trx place u store rising new well sound held n = by_kind u.body 
         (λ w. let s = sum w in let a : sum_of w (owned_row row) ≡ 0 = ap (λ st. sum_of w (owned_if st row.lob.page)) kind.0 in let b : sum_of w (owned_row u.before) ≡ sum_of w (u.before.lob.page ∷ []) = ap (sum_of w) (owned_live u.before kind.1) in omega (arith, s, a, b))
         (ap first_pages lobs)
 
+-- so where purge passes the oldest record of the first committed log
 pub pass_keeps_lobs : (a : Address) (u : Record) (store : Store) (l : Log) (ls : List Log) → IsWell store → AreSound store → AreRising store.rows → store.committed ≡ l ∷ ls → last_in l.records ≡ (a, u) ∷ []
     → HasLobs store → HasLobs (record_passed a l.trx u store)
 pass_keeps_lobs a u store l ls well sound rising first oldest held n = by_body u.body (swept_lobs u.body a l.trx u.doc (on_lobs (cleared u.body u.before) store)) (pass_sum a u store l ls well sound rising first oldest)
@@ -219,6 +230,7 @@ pass_keeps_lobs a u store l ls well sound rising first oldest held n = by_body u
     by_body (patched old) lobs sum = same sum lobs
     by_body removed lobs sum = less u.before.lob.page sum lobs
 
+-- a store's LOBs stay those that it owns where the first committed log keeps its records
 pub first_lobs : (f : Log → Log) (store : Store) → ((l : Log) → (f l).records ≡ l.records) → HasLobs store → HasLobs (on_oldest f store)
 first_lobs f store same held n = ap (λ ps. times n (row_lobs store.rows ++ (log_lobs store.active ++ ps))) (records_first store.committed) ∙ held n
   where
@@ -226,6 +238,7 @@ first_lobs f store same held n = ap (λ ps. times n (row_lobs store.rows ++ (log
     records_first [] = refl
     records_first (l ∷ ls) = ap (λ us. record_lobs us ++ log_lobs ls) (same l)
 
+-- so where the first committed log goes, which has no records left
 pub purged_lobs : (store : Store) (l : Log) (ls : List Log) → store.committed ≡ l ∷ ls → l.records ≡ [] → HasLobs store → HasLobs (log_purged store)
 purged_lobs store l ls first none held n =
     ap (λ (ms : List Log). times n (row_lobs store.rows ++ (log_lobs store.active ++ log_lobs (all_but_first ms)))) first

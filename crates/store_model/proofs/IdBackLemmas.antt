@@ -200,6 +200,7 @@ below_first : (n : ℕ) (f : Log → Log) (ls : List Log) → ((l : Log) → (f 
 below_first n f [] same all = tt
 below_first n f (l ∷ ls) same all = (omega (arith, same l, all.0), all.1)
 
+-- transaction ids stay in order where purge passes the oldest record of the first committed log
 pub ids_passed : (a : Address) (u : Record) (store : Store) (l : Log) (ls : List Log) → IsWell store → HasIds store → store.committed ≡ l ∷ ls → last_in l.records ≡ (a, u) ∷ []
     → HasIds (record_passed a l.trx u store)
 ids_passed a u store l ls well ids first oldest = elim (swept_row u.body a l.trx u.doc u.doc mid) [
@@ -268,6 +269,7 @@ ids_logs store after ids next act rows same some logs = record {
   bases = λ d. subst (λ x. NoLog (base_of (row_before after d) (changes after d)).trx x) (sym act) (subst (λ r. NoLog (base_of r (changes after d)).trx store.active) (sym (rows d)) (subst (λ x. NoLog (base_of (row_before store d) x).trx store.active) (sym (same d)) (ids.bases d)));
 }
 
+-- transaction ids stay in order where the first committed log keeps its records and transaction
 pub ids_first : (f : Log → Log) (store : Store) → ((l : Log) → (f l).records ≡ l.records) → ((l : Log) → (f l).trx ≡ l.trx) → HasIds store → HasIds (on_oldest f store)
 ids_first f store r t ids = ids_logs store (on_oldest f store) ids refl refl (λ d. refl) (λ d. ap (λ cs. active_changes d store.active ++ cs) (changes-first d f store.committed r t))
     (none_first 0 f store.committed t (none_parts 0 store.active store.committed ids.some).1) (below_first store.next_trx f store.committed t (below_parts store.next_trx store.active store.committed ids.logs).1)
@@ -280,6 +282,7 @@ below_rest : (n : ℕ) (ls : List Log) → LogsBelow n ls → LogsBelow n (all_b
 below_rest n [] all = tt
 below_rest n (l ∷ ls) all = all.1
 
+-- so where the first committed log goes, which has no records left
 pub ids_purged : (store : Store) (l : Log) (ls : List Log) → HasIds store → store.committed ≡ l ∷ ls → l.records ≡ [] → HasIds (log_purged store)
 ids_purged store l ls ids first none = ids_logs store (log_purged store) ids refl refl (λ d. refl) (λ d. log_changes_kept d store l ls first none)
     (none_rest 0 store.committed (none_parts 0 store.active store.committed ids.some).1) (below_rest store.next_trx store.committed (below_parts store.next_trx store.active store.committed ids.logs).1)

@@ -22,6 +22,8 @@ use Rattle.store_model.proofs.GivesLemmas.{gone_last}
 
 -- ---- one document's rows change
 
+-- transaction ids stay in order where one document's rows and changes alone move: its rows' ids are
+-- below the next, its oldest row is of no active log, none of which is new, and logs keep the order
 pub ids_by : (store after : Store) (q : ℕ) (row : Row) (cs : List Change) → HasIds store → after.next_trx ≡ store.next_trx
     → row_before after q ≡ row → changes after q ≡ cs
     → ((d : ℕ) → d ≢ q → (row_before after d ≡ row_before store d) × (changes after d ≡ changes store d))
@@ -44,14 +46,17 @@ ids_by store after q row cs ids next own_row own_changes kept all base fewer som
   ];
 }
 
+-- where all logs of a joined list are below an id, those of both parts are
 pub below_parts : (n : ℕ) (ls ms : List Log) → LogsBelow n (ls ++ ms) → LogsBelow n ls × LogsBelow n ms
 below_parts n [] ms all = (tt, all)
 below_parts n (l ∷ ls) ms all = let r = below_parts n ls ms all.1 in ((all.0, r.0), r.1)
 
+-- where the logs of both parts are below an id, all of the joined list are
 pub below_join : (n : ℕ) (ls ms : List Log) → LogsBelow n ls → LogsBelow n ms → LogsBelow n (ls ++ ms)
 below_join n [] ms a b = b
 below_join n (l ∷ ls) ms a b = (a.0, below_join n ls ms a.1 b)
 
+-- logs stay below an id where one of them changes and keeps its transaction
 pub below_on : (n trx : ℕ) (f : Log → Log) (ls : List Log) → ((l : Log) → (f l).trx ≡ l.trx) → LogsBelow n ls → LogsBelow n (on_log trx f ls)
 below_on n trx f [] same all = tt
 below_on n trx f (l ∷ ls) same all = by_test (l.trx == trx) (below_on n trx f ls same all.1)
@@ -81,6 +86,7 @@ below_popped n trx (l ∷ ls) all = by_test (l.trx == trx) (below_popped n trx l
 
 -- ---- a change is begun
 
+-- transaction ids stay in order where a change is begun whose new row is of its transaction
 pub ids_begins : (p : Plan) (new : Row → Row) (body : Body) (f : List Lob → List Lob) (store : Store) → HasIds store → MayChange p store → (new (row_before store p.doc)).trx ≡ p.trx
     → HasIds (on_lobs f (planned p new body store))
 ids_begins p new body f store ids may made =
@@ -96,11 +102,13 @@ ids_begins p new body f store ids may made =
     before : Row
     before = row_before store p.doc
 
+-- so where nothing but LOBs changes
 pub ids_lobs : (f : List Lob → List Lob) (store : Store) → HasIds store → HasIds (on_lobs f store)
 ids_lobs f store ids = record { some = ids.some; logs = ids.logs; rows = ids.rows; bases = ids.bases }
 
 -- ---- a record is undone
 
+-- so where a transaction's newest record is undone
 pub ids_undone : (trx : ℕ) (place : Address) (u : Record) (store : Store) → IsWell store → HasIds store → IsNewest trx place u store → HasIds (undo_ended trx u store)
 ids_undone trx place u store well ids new = by_test (is_gone mid u.before.state u.before) refl
   where
@@ -159,6 +167,7 @@ found_none x trx (m ∷ ms) l there none = elim (eqb_tells m.trx trx) [
   | inr other ↦ found_none x trx ms l (sym (ap (λ (b : Bool). if b then Some m else log_of ms trx) other.0) ∙ there) none.1
 ]
 
+-- so where a transaction is committed
 pub ids_commit : (trx : ℕ) (store : Store) → IsWell store → HasIds store → HasIds (committed_by trx store)
 ids_commit trx store well ids = by_log (log_of store.active trx) refl
   where

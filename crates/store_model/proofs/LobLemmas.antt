@@ -55,6 +55,7 @@ pieces-laid rs (l ∷ ls) page = by_test (l.page == page) (pieces-laid rs ls pag
     by_test true rest = refl
     by_test false rest = rest
 
+-- the parts of a reference get the runs that are laid over the LOBs
 pub parts-laid : (rs : List Run) (lobs : List Lob) (r : Reference) → parts (lobs_laid rs lobs) r ≡ map (all_laid rs) (parts lobs r)
 parts-laid rs lobs r = ap (λ ps. parts_at ps r.version) (pieces-laid rs lobs r.page) ∙ parts_at-laid rs (pieces_of (lob_of lobs r.page)) r.version
 
@@ -84,6 +85,7 @@ module _ (q : ℕ) where
   lob-with_other [] l other = rw (ne_eqb l.page q (λ e. other (sym e))) refl
   lob-with_other (x ∷ xs) l other = found (x.page == q) x (xs ++ l ∷ []) xs (lob-with_other xs l other)
 
+-- where one LOB changes, the changed one is found by its first page
 pub lob-on_this : (page : ℕ) (f : Lob → Lob) (lobs : List Lob) → ((l : Lob) → (f l).page ≡ l.page) → lob_of (on_lob page f lobs) page ≡ option_map f (lob_of lobs page)
 lob-on_this page f [] same = refl
 lob-on_this page f (l ∷ ls) same = elim (eqb_tells l.page page) [
@@ -113,6 +115,7 @@ parts-on_lob page f (l ∷ ls) r same kept = elim (eqb_tells l.page page) [
 
 -- ---- one piece changes
 
+-- the parts at a version stay where one piece changes and has the same data at that version
 pub parts-on_piece : (k : ℕ) (f : Piece → Piece) (ps : List Piece) (v : ℕ) → AtPiece k (λ p. part_list (piece_at (f p) v) ≡ part_list (piece_at p v)) ps
     → parts_at (on_piece k f ps) v ≡ parts_at ps v
 parts-on_piece k f [] v each = refl
@@ -150,6 +153,7 @@ version_at-front (x ∷ y ∷ ys) v there = by_test (nat_le x.number v) (version
     by_test true rest h = refl
     by_test false rest h = rest h
 
+-- a piece that finds a version without its oldest one has the same data there as with it
 pub piece-dropped : (p : Piece) (v : ℕ) → is_some (piece_at (dropped p) v) ≡ true → part_list (piece_at (dropped p) v) ≡ part_list (piece_at p v)
 piece-dropped p v there = by_test (nat_le p.head.number v) there
   where

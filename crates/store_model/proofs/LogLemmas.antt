@@ -11,14 +11,17 @@ use Rattle.store_model.specs.History.{Change, changes_among, log_changes, active
 use Rattle.store_model.specs.Steps.{last_in, all_but_first, on_log, without_log, log_of, shrunk, without_record}
 use Rattle.store_model.specs.Locked.{OthersIdle, IsLocked, first_in, newest_in}
 
+-- the change that a transaction's record at a place is
 abbrev pub change : ℕ → Address → Record → Change
 change trx place u = record { place = place; trx = trx; undo = u }
 
 -- ---- one log
 
+-- a record of the document is the first of its changes among these records
 pub among_this : (d trx : ℕ) (place : Address) (u : Record) (us : List (Address × Record)) → u.doc ≡ d → changes_among d trx ((place, u) ∷ us) ≡ change trx place u ∷ changes_among d trx us
 among_this d trx place u us this = rw (eq-eqb u.doc d this) refl
 
+-- a record of another document is none of its changes
 pub among_other : (d trx : ℕ) (u : Address × Record) (us : List (Address × Record)) → u.1.doc ≢ d → changes_among d trx (u ∷ us) ≡ changes_among d trx us
 among_other d trx u us other = rw (ne_eqb u.1.doc d other) refl
 
@@ -34,6 +37,7 @@ among-append d trx (u ∷ us) vs = by_test (u.1.doc == d) (among-append d trx us
 
 -- ---- a record is appended
 
+-- a record appended is the document's newest change, where no other transaction's log has one
 pub active-with : (trx d : ℕ) (place : Address) (u : Record) (logs : List Log) → is_some (log_of logs trx) ≡ true → OthersIdle trx d logs → u.doc ≡ d
     → active_changes d (on_log trx (with_record place u) logs) ≡ change trx place u ∷ active_changes d logs
 active-with trx d place u [] there idle this = absurd (cc there)
@@ -46,6 +50,7 @@ active-with trx d place u (l ∷ ls) there idle this = elim (eqb_tells l.trx trx
     by_test true e h = absurd (cc e)
     by_test false e h = h
 
+-- a record of another document leaves the changes of this one
 pub active-with_other : (trx d : ℕ) (place : Address) (u : Record) (logs : List Log) → u.doc ≢ d → active_changes d (on_log trx (with_record place u) logs) ≡ active_changes d logs
 active-with_other trx d place u [] other = refl
 active-with_other trx d place u (l ∷ ls) other = by_test (l.trx == trx) (active-with_other trx d place u ls other)
@@ -61,12 +66,15 @@ shrunk_changes : (d : ℕ) (l : Log) (us : List (Address × Record)) (ls : List 
 shrunk_changes d l [] ls = refl
 shrunk_changes d l (u ∷ us) ls = refl
 
+-- an empty option is never a full one
 pub None_not_Some : {A : Type 0} {x : A} → None ≡ Some x → ⊥
 None_not_Some e = cc e
 
+-- equal options have equal values in them
 pub Some_same : {A : Type 0} (x y : A) → Some x ≡ Some y → x ≡ y
 Some_same x y e = ap (λ o. unwrap_or o x) e
 
+-- a transaction's newest record is its document's newest change, in front of those left without it
 pub active-popped : (trx d : ℕ) (place : Address) (u : Record) (logs : List Log) → newest_in trx logs ≡ Some (place, u) → OthersIdle trx d logs → u.doc ≡ d
     → active_changes d logs ≡ change trx place u ∷ active_changes d (without_record trx logs)
 active-popped trx d place u [] newest idle this = absurd (cc newest)
@@ -97,6 +105,7 @@ active-popped trx d place u (l ∷ ls) newest idle this = elim (eqb_tells l.trx 
         ∙ ap (λ cs. cs ++ active_changes d ls) (among_this d l.trx place u us this ∙ ap (λ t. change t place u ∷ changes_among d l.trx us) t)
         ∙ ap (λ cs. change trx place u ∷ cs) (sym (shrunk_changes d l us ls) ∙ ap (λ us. active_changes d (shrunk l (all_but_first us) ls)) (sym e))
 
+-- another document keeps its changes where that record goes
 pub active-popped_other : (trx d : ℕ) (place : Address) (u : Record) (logs : List Log) → newest_in trx logs ≡ Some (place, u) → u.doc ≢ d
     → active_changes d (without_record trx logs) ≡ active_changes d logs
 active-popped_other trx d place u [] newest other = refl
@@ -114,10 +123,12 @@ active-popped_other trx d place u (l ∷ ls) newest other = by_test (l.trx == tr
 
 -- ---- a transaction is committed
 
+-- of committed logs the last one's changes are the newest
 pub committed-with : (d : ℕ) (ls : List Log) (l : Log) → committed_changes d (ls ++ l ∷ []) ≡ log_changes d l ++ committed_changes d ls
 committed-with d [] l = sym (append-nil (log_changes d l))
 committed-with d (x ∷ xs) l = ap (λ cs. cs ++ log_changes d x) (committed-with d xs l) ∙ append_assoc (log_changes d l) (committed_changes d xs) (log_changes d x)
 
+-- where a joined list is empty, both its parts are
 pub nil_parts : {A : Type 0} (xs ys : List A) → xs ++ ys ≡ [] → (xs ≡ []) × (ys ≡ [])
 nil_parts [] ys e = (refl, e)
 nil_parts (x ∷ xs) ys e = absurd (cc e)
@@ -162,11 +173,13 @@ active-moved trx d (x ∷ xs) l locked there = by_test (x.trx == trx) there lock
 
 -- ---- purge passes a record
 
+-- all but the last of a list, and the last, are the list
 pub but_last : {A : Type 0} (xs : List A) → all_but_last xs ++ last_in xs ≡ xs
 but_last [] = refl
 but_last (x ∷ []) = refl
 but_last (x ∷ y ∷ ys) = ap (λ zs. x ∷ zs) (but_last (y ∷ ys))
 
+-- committed changes are those without the first log's oldest record, and behind them its own
 pub committed-passed : (d : ℕ) (l : Log) (ls : List Log) → committed_changes d (l ∷ ls) ≡ committed_changes d (passed l ∷ ls) ++ changes_among d l.trx (last_in l.records)
 committed-passed d l ls =
     ap (λ cs. committed_changes d ls ++ cs) (ap (changes_among d l.trx) (sym (but_last l.records)) ∙ among-append d l.trx (all_but_last l.records) (last_in l.records))

@@ -41,6 +41,7 @@ above_from : (a b : ℕ) (rs : List (ℕ × Row)) → a < b → AllAbove b rs �
 above_from a b [] low all = tt
 above_from a b (r ∷ rs) low all = (omega (arith, all.0), above_from a b rs low all.1)
 
+-- rows stay in rising order where one is put among them
 pub rising_put : (d : ℕ) (row : Row) (rs : List (ℕ × Row)) → AreRising rs → AreRising (put nat_cmp d row rs)
 rising_put d row [] all = (tt, tt)
 rising_put d row (r ∷ rs) all = elim (cmp_tells d r.0) [
@@ -59,6 +60,7 @@ above_out x d (r ∷ rs) all = by_test (not (r.0 == d)) (above_out x d rs all.1)
     by_test true rest = (all.0, rest)
     by_test false rest = rest
 
+-- rows stay in rising order where one is taken out
 pub rising_out : (d : ℕ) (rs : List (ℕ × Row)) → AreRising rs → AreRising (where_key nat_cmp (λ n. not (n == d)) rs)
 rising_out d [] all = tt
 rising_out d (r ∷ rs) all = by_test (not (r.0 == d)) (above_out r.0 d rs all.0) (rising_out d rs all.1)
@@ -70,6 +72,7 @@ rising_out d (r ∷ rs) all = by_test (not (r.0 == d)) (above_out r.0 d rs all.0
 
 -- ---- a transaction is committed
 
+-- the sum over LOBs that logs own is that without one log, and that log's
 pub moved_sum : (w : ℕ → ℕ) (trx : ℕ) (ls : List Log) (l : Log) → log_of ls trx ≡ Some l → sum_of w (log_lobs (without_log trx ls)) + sum_of w (record_lobs l.records) ≡ sum_of w (log_lobs ls)
 moved_sum w trx [] l there = absurd (None_not_Some there)
 moved_sum w trx (m ∷ ms) l there = elim (eqb_tells m.trx trx) [
@@ -93,6 +96,7 @@ moved_pages n trx (m ∷ ms) l there = elim (eqb_tells m.trx trx) [
       let a = times-append n m.pages (log_pages (without_log trx ms)) in let b = times-append n m.pages (log_pages ms) in omega (arith, r, a, b))
 ]
 
+-- with one log more behind them, the sum over LOBs that logs own is more by its own
 pub last_lobs : (w : ℕ → ℕ) (ls : List Log) (l : Log) → sum_of w (log_lobs (ls ++ l ∷ [])) ≡ sum_of w (log_lobs ls) + sum_of w (record_lobs l.records)
 last_lobs w [] l = let a = sum-append w (record_lobs l.records) [] in omega (arith, a)
 last_lobs w (m ∷ ms) l = let r = last_lobs w ms l in let a = sum-append w (record_lobs m.records) (log_lobs (ms ++ l ∷ [])) in let b = sum-append w (record_lobs m.records) (log_lobs ms) in omega (arith, r, a, b)
@@ -101,6 +105,7 @@ last_pages : (n : ℕ) (ls : List Log) (l : Log) → times n (log_pages (ls ++ l
 last_pages n [] l = let a = times-append n l.pages [] in omega (arith, a)
 last_pages n (m ∷ ms) l = let r = last_pages n ms l in let a = times-append n m.pages (log_pages (ms ++ l ∷ [])) in let b = times-append n m.pages (log_pages ms) in omega (arith, r, a, b)
 
+-- a commit leaves how often each page is owned
 pub commit_owns : (trx : ℕ) (store : Store) (n : ℕ) → times n (owned (committed_by trx store)) ≡ times n (owned store)
 commit_owns trx store n = by_log (log_of store.active trx) refl
   where
@@ -121,6 +126,7 @@ commit_owns trx store n = by_log (log_of store.active trx) refl
 
 -- ---- a log is begun
 
+-- a log begun takes its first page, and no other
 pub log_begun_owns : (trx page : ℕ) (store : Store) (n : ℕ) → times n (owned (log_begun trx page store)) ≡ times n (owned store) + times n (page ∷ [])
 log_begun_owns trx page store n = let a = owned_total n (log_begun trx page store) in let b = owned_total n store in omega (arith, a, b)
 
@@ -202,6 +208,7 @@ module _ (a : Address) (u : Record) (store : Store) (l : Log) (ls : List Log) (w
       by_body (patched old) lobs sum = gives_none 0 n store after (λ w. let s = sum w in omega (arith, s)) (λ q. ap (λ ms. rest_of (lob_of ms q)) lobs) (pass_fixed n)
       by_body removed lobs sum = let r = gives_lob u.before.lob.page 0 n store after sound (λ w. let s = sum w in omega (arith, s)) lobs (pass_fixed n) in omega (arith, r)
 
+-- a first committed log without records gives back its pages where it goes, and no other
 pub purged_gives : (store : Store) (l : Log) (ls : List Log) (n : ℕ) → store.committed ≡ l ∷ ls → l.records ≡ [] → times n (owned (log_purged store)) + times n l.pages ≡ times n (owned store)
 purged_gives store l ls n first none =
     let w = weight store.lobs n in

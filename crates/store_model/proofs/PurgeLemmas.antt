@@ -26,6 +26,7 @@ to-laid : (trx : ℕ) (rs : List Run) (old new : List Lob) (row : Row) (cs : Lis
 to-laid trx rs old new row [] all = same-laid rs old new row all
 to-laid trx rs old new row (c ∷ cs) all = (same-laid rs old new row all.0, elim all.1 [ inl e ↦ inl e | inr rest ↦ inr (to-laid trx rs old new c.undo.before cs rest) ])
 
+-- what follows row by row from a fact holds of the rows down to a transaction's where the fact does
 pub to_rows : (trx : ℕ) (P Q : Row → Type 0) (row : Row) (cs : List Change) → ((row : Row) → P row → Q row) → AllTo trx P row cs → AllTo trx Q row cs
 to_rows trx P Q row [] so all = so row all
 to_rows trx P Q row (c ∷ cs) so all = (so row all.0, elim all.1 [ inl e ↦ inl e | inr rest ↦ inr (to_rows trx P Q c.undo.before cs so rest) ])
@@ -65,11 +66,14 @@ same_dropped : (page k : ℕ) (free : List Address) (lobs : List Lob) (row : Row
 same_dropped page k free lobs row finds = same-on page (λ l. record (at_piece k dropped l) { free = free }) lobs row (λ l. refl)
     (λ is_live here l there. parts-on_piece k dropped l.pieces row.lob.version (at_dropped k row.lob.version l.pieces (finds is_live here l there)))
 
+-- who sees the transaction sees the document as before where a piece loses its oldest version, if
+-- the rows down to the transaction's find theirs without it
 pub drop_seen : (trx page k : ℕ) (free : List Address) (store : Store) (d : ℕ) → AllTo trx (FindsWithout page k store.lobs) (row_before store d) (changes store d)
     → SeesSame trx d store (version_dropped page k free store)
 drop_seen trx page k free store d finds = lobs_seen trx d (on_lob page (λ l. record (at_piece k dropped l) { free = free })) store
     (to_rows trx (FindsWithout page k store.lobs) _ (row_before store d) (changes store d) (same_dropped page k free store.lobs) finds)
 
+-- so where a LOB changes that none of the rows down to the transaction's has
 pub elsewhere_seen : (trx page d : ℕ) (f : Lob → Lob) (store : Store) → ((l : Lob) → (f l).page ≡ l.page) → AllTo trx (IsElsewhere page) (row_before store d) (changes store d)
     → SeesSame trx d store (on_lobs (on_lob page f) store)
 elsewhere_seen trx page d f store same elsewhere = lobs_seen trx d (on_lob page f) store
@@ -77,6 +81,7 @@ elsewhere_seen trx page d f store same elsewhere = lobs_seen trx d (on_lob page 
 
 -- ---- logs
 
+-- a document's committed changes stay where the first log keeps its records and transaction
 pub changes-first : (d : ℕ) (f : Log → Log) (logs : List Log) → ((l : Log) → (f l).records ≡ l.records) → ((l : Log) → (f l).trx ≡ l.trx) → committed_changes d (on_first f logs) ≡ committed_changes d logs
 changes-first d f [] r t = refl
 changes-first d f (l ∷ ls) r t = ap₂ (λ (n : ℕ) (us : List (Address × Record)). committed_changes d ls ++ changes_among d n us) (t l) (r l)
@@ -84,12 +89,15 @@ changes-first d f (l ∷ ls) r t = ap₂ (λ (n : ℕ) (us : List (Address × Re
 pub first_keeps : (d : ℕ) (f : Log → Log) (store : Store) → ((l : Log) → (f l).records ≡ l.records) → ((l : Log) → (f l).trx ≡ l.trx) → KeepsAll d store (on_oldest f store)
 first_keeps d f store r t = ap (λ cs. history_behind [] store.lobs (row_before store d) (active_changes d store.active ++ cs)) (changes-first d f store.committed r t)
 
+-- where purge begins, each document keeps its history
 pub begun_keeps : (d : ℕ) (store : Store) → KeepsAll d store (purge_begun store)
 begun_keeps d store = first_keeps d _ store (λ l. refl) (λ l. refl)
 
+-- so where the first committed log gets other pages
 pub pages_keep : (d : ℕ) (pages : List ℕ) (store : Store) → KeepsAll d store (log_pages_left pages store)
 pages_keep d pages store = first_keeps d _ store (λ l. refl) (λ l. refl)
 
+-- where the first committed log goes, which has no records left, the changes stay
 pub log_changes_kept : (d : ℕ) (store : Store) (l : Log) (ls : List Log) → store.committed ≡ l ∷ ls → l.records ≡ [] → changes (log_purged store) d ≡ changes store d
 log_changes_kept d store l ls first none =
     ap (λ cs. active_changes d store.active ++ cs)
@@ -97,11 +105,13 @@ log_changes_kept d store l ls first none =
     ∙ sym (append-nil (committed_changes d ls)) ∙ ap (λ us. committed_changes d ls ++ changes_among d l.trx us) (sym none)
     ∙ sym (ap (committed_changes d) first))
 
+-- and so does each document's history
 pub log_keeps : (d : ℕ) (store : Store) (l : Log) (ls : List Log) → store.committed ≡ l ∷ ls → l.records ≡ [] → KeepsAll d store (log_purged store)
 log_keeps d store l ls first none = ap (history_behind [] store.lobs (row_before store d)) (log_changes_kept d store l ls first none)
 
 -- ---- a record is passed
 
+-- the sweep of a deleted row leaves the LOBs
 pub swept_lobs : (body : Body) (a : Address) (trx d : ℕ) (store : Store) → (swept body a trx d store).lobs ≡ store.lobs
 swept_lobs (inserted page) a trx d store = refl
 swept_lobs (rebuilt page) a trx d store = refl
@@ -113,6 +123,7 @@ swept_lobs removed a trx d store = by_test (is_newest a trx (row_of store d))
     by_test true = refl
     by_test false = refl
 
+-- and the changes of each document that are left where the record is passed
 pub swept_changes : (body : Body) (a : Address) (trx d q : ℕ) (store : Store) → changes (on_oldest passed (swept body a trx d store)) q ≡ changes (on_oldest passed store) q
 swept_changes (inserted page) a trx d q store = refl
 swept_changes (rebuilt page) a trx d q store = refl
@@ -141,6 +152,8 @@ swept_row removed a trx d q store = by_test (is_newest a trx (row_of store d)) r
       | inr other ↦ inl (row-without_other d q store other)
     ]
 
+-- a document's changes are those that are left where purge passes a record, and behind them
+-- the record's, if it is of the document
 pub passed_changes : (d : ℕ) (store : Store) (l : Log) (ls : List Log) → store.committed ≡ l ∷ ls → changes store d ≡ changes (on_oldest passed store) d ++ changes_among d l.trx (last_in l.records)
 passed_changes d store l ls first =
     ap (λ (ms : List Log). active_changes d store.active ++ committed_changes d ms) first
@@ -157,6 +170,7 @@ pass_changes_other a u store l ls d first oldest other =
     ∙ ap (λ us. changes (on_oldest passed store) d ++ us) (sym (ap (changes_among d l.trx) oldest ∙ among_other d l.trx (a, u) [] (λ e. other (sym e))))
     ∙ sym (passed_changes d store l ls first)
 
+-- another document keeps its history where its rows find the same parts once the record is passed
 pub pass_others : (a : Address) (u : Record) (store : Store) (l : Log) (ls : List Log) (d : ℕ) → store.committed ≡ l ∷ ls → last_in l.records ≡ (a, u) ∷ [] → d ≢ u.doc
     → AllRows (SameParts store.lobs (cleared u.body u.before store.lobs)) store d → KeepsAll d store (record_passed a l.trx u store)
 pass_others a u store l ls d first oldest other same =
@@ -172,6 +186,7 @@ pass_others a u store l ls d first oldest other same =
     after : Store
     after = record_passed a l.trx u store
 
+-- a test between a value and itself gives the value
 pub either : {A : Type 0} (b : Bool) (x : A) → (if b then x else x) ≡ x
 either true x = refl
 either false x = refl
@@ -224,11 +239,14 @@ free_seen trx page d free store elsewhere = elsewhere_seen trx page d (λ l. rec
 pub index_seen : (trx page d : ℕ) (store : Store) → AllTo trx (IsElsewhere page) (row_before store d) (changes store d) → SeesSame trx d store (index_freed page store)
 index_seen trx page d store elsewhere = elsewhere_seen trx page d without_index store (λ l. refl) elsewhere
 
+-- where the first committed log goes, who is among the first commits stays, from its number on
 pub log_among : (k x : ℕ) (store : Store) (l : Log) (ls : List Log) → store.committed ≡ l ∷ ls → l.number ≤ k → is_among (log_purged store) k x ≡ is_among store k x
 log_among k x store l ls first below =
     ap (λ (ms : List Log). not (stands x store.active) && not (stands_above k x (all_but_first ms))) first
     ∙ ap (λ (b : Bool). not (stands x store.active) && not ((b && (l.trx == x)) || stands_above k x ls)) (sym (le-ltb k l.number below))
     ∙ ap (λ (ms : List Log). not (stands x store.active) && not (stands_above k x ms)) (sym first)
 
+-- a document shows the same under k commits where who sees a transaction among them sees the same,
+-- and the same transactions are among them
 pub seen_under : (trx d k : ℕ) (old new : Store) → SeesSame trx d old new → is_among old k trx ≡ true → ((x : ℕ) → is_among new k x ≡ is_among old k x) → under new d k ≡ under old d k
 seen_under trx d k old new same known among = seen-same (is_among new k) (is_among old k) (history new d) among ∙ same (is_among old k) known

@@ -31,10 +31,12 @@ byte_within r place b low high = rw (le-leb r.at place low) (get_or_default r.by
 abbrev pub over : Run → ℕ → ℕ → List ℕ → List ℕ
 over r page at bs = if page == r.page then bytes_laid r at bs else bs
 
+-- bytes that begin at a place of a page, with all runs laid over them, the first one first
 abbrev pub all_over : List Run → ℕ → ℕ → List ℕ → List ℕ
 all_over [] page at bs = bs
 all_over (r ∷ rs) page at bs = all_over rs page at (over r page at bs)
 
+-- runs laid over a part change its bytes alone
 pub all_laid-over : (rs : List Run) (v : Part) (bs : List ℕ) → all_laid rs (with_bytes bs v) ≡ with_bytes (all_over rs v.page v.at bs) v
 all_laid-over [] v bs = refl
 all_laid-over (r ∷ rs) v bs = all_laid-over rs v (over r v.page v.at bs)
@@ -45,6 +47,7 @@ length-over r page at bs = elim (eqb_tells page r.page) [
   | inr other ↦ rw other.0 refl
 ]
 
+-- runs laid over bytes leave as many
 pub length-all_over : (rs : List Run) (page at : ℕ) (bs : List ℕ) → length (all_over rs page at bs) ≡ length bs
 length-all_over [] page at bs = refl
 length-all_over (r ∷ rs) page at bs = length-all_over rs page at (over r page at bs) ∙ length-over r page at bs
@@ -87,6 +90,7 @@ over_off r page at bs i below off = elim (eqb_tells page r.page) [
     by_side (inr (inl before)) same = byte_before r (at + i) (get_or bs i 0) before
     by_side (inr (inr behind)) same = byte_behind r (at + i) (get_or bs i 0) behind
 
+-- a byte that none of the runs covers stays
 pub all_over_off : (rs : List Run) (page at : ℕ) (bs : List ℕ) (i : ℕ) → i < length bs → IsOffAll rs page (at + i) → get_or (all_over rs page at bs) i 0 ≡ get_or bs i 0
 all_over_off [] page at bs i below off = refl
 all_over_off (r ∷ rs) page at bs i below off = all_over_off rs page at (over r page at bs) i (omega (arith, length-over r page at bs)) off.1 ∙ over_off r page at bs i below off.0

@@ -18,6 +18,7 @@ use Rattle.store_model.proofs.ChangeLemmas.{patch_begins}
 
 -- ---- lists of pages
 
+-- a page is among a list of pages, or it isn't
 pub among_or_not : (n : ℕ) (ms : List ℕ) → IsAmong n ms ⊎ IsNotAmong n ms
 among_or_not n [] = inr tt
 among_or_not n (m ∷ ms) = elim (cases_eq m n) [
@@ -178,6 +179,7 @@ owned_down pages row (c ∷ cs) none = (one row (λ page n. (none page n).0), ow
 pub lobs_are_owned : (store : Store) (d : ℕ) → IsWell store → AllRows (λ r. r.state ≡ live → IsAmong r.lob.page (owned_lobs store)) store d
 lobs_are_owned store d well = owned_down (owned_lobs store) (row_before store d) (changes store d) (λ page none. unowned_lob page store well none d)
 
+-- in a sound store no page is twice among those of the owned LOBs
 pub sound_lobs : (store : Store) → AreSound store → AreDifferent (lob_pages store.lobs (owned_lobs store))
 sound_lobs store sound =
     different_behind (log_pages store.committed) (lob_pages store.lobs (owned_lobs store))
@@ -196,6 +198,8 @@ others_untouched store d e rs well sound differ is_live are =
     (λ r there elsewhere. lob_untouched store.lobs (owned_lobs store) (row_before store d).lob.page rs r (sound_lobs store sound) ((lobs_are_owned store d well).0 is_live) are there elsewhere)
     (lobs_are_owned store e well) ((well.apart d e differ).0 is_live)
 
+-- in a sound store a change in place of pages of the document's own LOB adds a row to its history
+-- and leaves the others
 pub sound_patch : (p : Plan) (old new : List Run) (store : Store) → IsWell store → AreSound store → MayChange p store → (row_before store p.doc).state ≡ live
     → AreOf (row_before store p.doc).lob.page store.lobs new → ArePaired old new → StandThere old store.lobs → Begins p store (patch_made p old new store)
 sound_patch p old new store well sound may is_live are pairs there =

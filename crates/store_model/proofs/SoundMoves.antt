@@ -22,12 +22,14 @@ unowned_at : (n : ℕ) (pages : List ℕ) (store : Store) → AreUnowned pages s
 unowned_at n [] store all there = absurd there
 unowned_at n (p ∷ ps) store all there = elim there [ inl same ↦ subst (λ m. IsNotAmong m (owned store)) same all.0 | inr rest ↦ unowned_at n ps store all.1 rest ]
 
+-- a sound store stays sound where it takes different pages that it didn't own
 pub sound_takes : (pages : List ℕ) (old new : Store) → AreSound old → AreDifferent pages → AreUnowned pages old → Takes pages old new → AreSound new
 sound_takes pages old new sound different unowned takes = once_different (owned new) (λ n. elim (among_or_not n pages) [
   | inl there ↦ let a = takes n in let b = times_none n (owned old) (unowned_at n pages old unowned there) in let c = different_once n pages different in omega (arith, a, b, c)
   | inr none ↦ let a = takes n in let b = different_once n (owned old) sound in let c = times_none n pages none in omega (arith, a, b, c)
 ])
 
+-- a sound store stays sound where it gives pages back
 pub sound_gives : (pages : List ℕ) (old new : Store) → AreSound old → Gives pages old new → AreSound new
 sound_gives pages old new sound gives = once_different (owned new) (λ n. let a = gives n in let b = different_once n (owned old) sound in omega (arith, a, b))
 

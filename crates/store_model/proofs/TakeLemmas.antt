@@ -16,6 +16,7 @@ use Rattle.store_model.proofs.CountLemmas.{sum_of, sum-append, cmp_tells}
 
 -- ---- rows
 
+-- the first page of the LOB that a row owns, if it owns one
 abbrev pub owned_row : Row → List ℕ
 owned_row r = owned_if r.state r.lob.page
 
@@ -30,6 +31,8 @@ find_above d (r ∷ rs) all = ap (λ b. cond b (Some r.1) (find nat_cmp d rs)) (
     none : 1 ≤ 0 → ⊥
     none h = absurd (omega arith)
 
+-- where a document's row is put, the sum over LOBs that rows own loses what its old one owned, and
+-- gains what the new one owns
 pub put_sum : (w : ℕ → ℕ) (d : ℕ) (row : Row) (rs : List (ℕ × Row)) → AreRising rs
     → sum_of w (row_lobs (put nat_cmp d row rs)) + sum_of w (owned_row (unwrap_or (find nat_cmp d rs) absent_row)) ≡ sum_of w (row_lobs rs) + sum_of w (owned_row row)
 put_sum w d row [] all = let a = sum-append w (owned_row row) [] in omega (arith, a)
@@ -62,6 +65,7 @@ put_sum w d row (r ∷ rs) all = by_cmp (cmp_tells d r.0) (put_sum w d row rs al
 
 -- ---- records
 
+-- a record appended adds the LOB that it owns, if any, to the sum over those that logs own
 pub with_record_sum : (w : ℕ → ℕ) (trx : ℕ) (place : Address) (u : Record) (ls : List Log) → is_some (log_of ls trx) ≡ true
     → sum_of w (log_lobs (on_log trx (with_record place u) ls)) ≡ sum_of w (log_lobs ls) + sum_of w (owned_by u.body u.before)
 with_record_sum w trx place u [] there = absurd (cc there)
@@ -73,6 +77,7 @@ with_record_sum w trx place u (l ∷ ls) there = elim (eqb_tells l.trx trx) [
       let a = sum-append w (record_lobs l.records) (log_lobs (on_log trx (with_record place u) ls)) in let c = sum-append w (record_lobs l.records) (log_lobs ls) in omega (arith, a, c, r))
 ]
 
+-- a record appended to a log leaves the logs' lists of pages
 pub with_record_pages : (trx : ℕ) (place : Address) (u : Record) (ls : List Log) → log_pages (on_log trx (with_record place u) ls) ≡ log_pages ls
 with_record_pages trx place u [] = refl
 with_record_pages trx place u (l ∷ ls) = by_test (l.trx == trx) (with_record_pages trx place u ls)

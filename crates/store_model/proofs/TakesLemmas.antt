@@ -22,9 +22,11 @@ use Rattle.store_model.proofs.SoundLemmas.{sound_lobs}
 
 -- ---- what is owned, in parts
 
+-- how often a page is owned apart from LOBs: as page 0, by the rows, and by undo logs
 abbrev pub fixed : ℕ → Store → ℕ
 fixed n store = times n (0 ∷ store.row_pages) + (times n (log_pages store.active) + times n (log_pages store.committed))
 
+-- a page is owned as often as apart from LOBs, and in each owned LOB
 pub owned_total : (n : ℕ) (store : Store) → times n (owned store) ≡ fixed n store + sum_of (weight store.lobs n) (owned_lobs store)
 owned_total n store =
     let a = times-append n (0 ∷ store.row_pages) (log_pages store.active ++ (log_pages store.committed ++ lob_pages store.lobs (owned_lobs store))) in
@@ -32,6 +34,7 @@ owned_total n store =
     let c = times-append n (log_pages store.committed) (lob_pages store.lobs (owned_lobs store)) in
     let d = times-lob_pages n store.lobs (owned_lobs store) in omega (arith, a, b, c, d)
 
+-- a sum over the owned LOBs is that over those of rows, of active and of committed logs
 pub lobs_total : (w : ℕ → ℕ) (store : Store) → sum_of w (owned_lobs store) ≡ sum_of w (row_lobs store.rows) + (sum_of w (log_lobs store.active) + sum_of w (log_lobs store.committed))
 lobs_total w store = let a = sum-append w (row_lobs store.rows) (log_lobs store.active ++ log_lobs store.committed) in let b = sum-append w (log_lobs store.active) (log_lobs store.committed) in omega (arith, a, b)
 
@@ -55,6 +58,7 @@ planned_counts n p new body f store rising may same =
     let i : times n (log_pages after.active) ≡ times n (log_pages store.active) = ap (times n) (with_record_pages p.trx p.place u store.active) in
     omega (arith, a, b, c, d, e, g, h, i)
 
+-- a row that isn't live owns no LOB
 pub owned_unlive : (r : Row) → r.state ≢ live → owned_row r ≡ []
 owned_unlive r other = by_state r.state refl
   where
@@ -63,9 +67,11 @@ owned_unlive r other = by_state r.state refl
     by_state live e = absurd (other e)
     by_state deleted e = refl
 
+-- a live row owns its LOB
 pub owned_live : (r : Row) → r.state ≡ live → owned_row r ≡ r.lob.page ∷ []
 owned_live r e = ap (λ s. owned_if s r.lob.page) e
 
+-- a LOB that is added where none began is the one that is found by its first page
 pub lob-with_this : (lobs : List Lob) (l : Lob) → lob_of lobs l.page ≡ None → lob_of (lobs ++ l ∷ []) l.page ≡ Some l
 lob-with_this [] l none = rw (eq-eqb l.page l.page refl) refl
 lob-with_this (m ∷ ms) l none = elim (eqb_tells m.page l.page) [
@@ -83,6 +89,7 @@ with_weight n lobs l ps none q there = ap (λ (o : Option Lob). times n (q ∷ r
 new_weight : (n : ℕ) (lobs : List Lob) (l : Lob) → lob_of lobs l.page ≡ None → weight (lobs ++ l ∷ []) n l.page ≡ times n (l.page ∷ rest_of (Some l))
 new_weight n lobs l none = ap (λ (o : Option Lob). times n (l.page ∷ rest_of o)) (lob-with_this lobs l none)
 
+-- an insert takes the pages of its LOB, which is owned by none and new, for a row that isn't live
 pub insert_takes : (p : Plan) (lob : Lob) (len : ℕ) (store : Store) → AreRising store.rows → MayChange p store → IsNotAmong lob.page (owned_lobs store) → lob_of store.lobs lob.page ≡ None
     → (row_before store p.doc).state ≢ live → Takes (lob.page ∷ rest_of (Some lob)) store (insert_begun p lob len store)
 insert_takes p lob len store rising may fresh none before n =
@@ -91,6 +98,7 @@ insert_takes p lob len store rising may fresh none before n =
     let b : sum_of w (owned_row (row_before store p.doc)) ≡ 0 = ap (sum_of w) (owned_unlive (row_before store p.doc) before) in
     let c = new_weight n store.lobs lob none in omega (arith, a, b, c)
 
+-- so does a change of kind Full, for a live row, whose old LOB the record owns from then on
 pub rebuild_takes : (p : Plan) (lob : Lob) (len : ℕ) (store : Store) → AreRising store.rows → MayChange p store → IsNotAmong lob.page (owned_lobs store) → lob_of store.lobs lob.page ≡ None
     → (row_before store p.doc).state ≡ live → Takes (lob.page ∷ rest_of (Some lob)) store (rebuild_begun p lob len store)
 rebuild_takes p lob len store rising may fresh none before n =
@@ -99,6 +107,7 @@ rebuild_takes p lob len store rising may fresh none before n =
     let b : sum_of w (owned_row (row_before store p.doc)) ≡ sum_of w ((row_before store p.doc).lob.page ∷ []) = ap (sum_of w) (owned_live (row_before store p.doc) before) in
     let c = new_weight n store.lobs lob none in omega (arith, a, b, c)
 
+-- each LOB has the pages that it had, where one changes and keeps its own
 pub rest_on : (page : ℕ) (f : Lob → Lob) (lobs : List Lob) (q : ℕ) → ((l : Lob) → (f l).page ≡ l.page) → ((l : Lob) → rest_of (Some (f l)) ≡ rest_of (Some l)) → rest_of (lob_of (on_lob page f lobs) q) ≡ rest_of (lob_of lobs q)
 rest_on page f [] q same rest = refl
 rest_on page f (l ∷ ls) q same rest = elim (eqb_tells l.page page) [
@@ -133,6 +142,7 @@ pieces_laid : (rs : List Run) (first : ℕ) (ps : List Piece) → piece_pages fi
 pieces_laid rs first [] = refl
 pieces_laid rs first (p ∷ ps) = ap₂ (λ xs ys. (data_page first p.head ++ xs) ++ ys) (data_laid rs first p.older) (pieces_laid rs first ps)
 
+-- runs laid over LOBs leave the pages of each
 pub rest_laid : (rs : List Run) (lobs : List Lob) (q : ℕ) → rest_of (lob_of (lobs_laid rs lobs) q) ≡ rest_of (lob_of lobs q)
 rest_laid rs [] q = refl
 rest_laid rs (l ∷ ls) q = by_test (l.page == q) (rest_laid rs ls q)
@@ -141,6 +151,7 @@ rest_laid rs (l ∷ ls) q = by_test (l.page == q) (rest_laid rs ls q)
     by_test true rest = ap (λ ps. l.index ++ ps) (pieces_laid rs l.page l.pieces)
     by_test false rest = rest
 
+-- a change in place of a live row takes no page
 pub patch_takes : (p : Plan) (old new : List Run) (store : Store) → AreRising store.rows → MayChange p store → (row_before store p.doc).state ≡ live → Takes [] store (patch_made p old new store)
 patch_takes p old new store rising may before n =
     let w = weight (lobs_laid new store.lobs) n in
@@ -148,6 +159,7 @@ patch_takes p old new store rising may before n =
     let b : sum_of w (owned_row (row_before store p.doc)) ≡ sum_of w ((row_before store p.doc).lob.page ∷ []) = ap (sum_of w) (owned_live (row_before store p.doc) before) in
     let c : sum_of w (owned_row (patched_row p (row_before store p.doc))) ≡ sum_of w ((row_before store p.doc).lob.page ∷ []) = ap (sum_of w) (owned_live (patched_row p (row_before store p.doc)) before) in omega (arith, a, b, c)
 
+-- nor does the deletion of a live row, whose LOB the record owns from then on
 pub delete_takes : (p : Plan) (store : Store) → AreRising store.rows → MayChange p store → (row_before store p.doc).state ≡ live → Takes [] store (delete_made p store)
 delete_takes p store rising may before n =
     let w = weight store.lobs n in
@@ -156,6 +168,7 @@ delete_takes p store rising may before n =
 
 -- ---- one LOB changes
 
+-- LOBs that have no page twice among all theirs have different first pages
 pub different_lobs : (lobs : List Lob) (ps : List ℕ) → AreDifferent (lob_pages lobs ps) → AreDifferent ps
 different_lobs lobs [] all = tt
 different_lobs lobs (p ∷ ps) all = (lobs_owned p lobs ps (not_behind p (rest_of (lob_of lobs p)) (lob_pages lobs ps) all.0), different_lobs lobs ps (different_rest (rest_of (lob_of lobs p)) (lob_pages lobs ps) all.1))
@@ -168,6 +181,7 @@ different_lobs lobs (p ∷ ps) all = (lobs_owned p lobs ps (not_behind p (rest_o
     different_rest [] ys all = all
     different_rest (x ∷ xs) ys all = different_rest xs ys all.1
 
+-- where one owned LOB changes, how often a page is owned moves just as among the LOB's own pages
 pub lob_moves : (page : ℕ) (f : Lob → Lob) (l : Lob) (store : Store) (n : ℕ) → AreSound store → ((m : Lob) → (f m).page ≡ m.page) → lob_of store.lobs page ≡ Some l → IsAmong page (owned_lobs store)
     → times n (owned (on_lobs (on_lob page f) store)) + times n (rest_of (Some l)) ≡ times n (owned store) + times n (rest_of (Some (f l)))
 lob_moves page f l store n sound same there among =

@@ -35,6 +35,7 @@ none_above k x (l ∷ ls) none = rw (ne_eqb l.trx x none.0) (by_test (nat_lt k l
     by_test true rest = rest
     by_test false rest = rest
 
+-- of logs of different transactions, none before or behind one has its transaction
 pub distinct_behind : (ls : List Log) (l : Log) (ms : List Log) → AreDistinct (ls ++ l ∷ ms) → NoLog l.trx ls × NoLog l.trx ms
 distinct_behind [] l ms all = (tt, all.0)
 distinct_behind (m ∷ ns) l ms all = let r = distinct_behind ns l ms all.1 in (((λ e. (none_parts m.trx ns (l ∷ ms) all.0).1.0 (sym e)), r.0), r.1)
@@ -76,17 +77,21 @@ module _ (a : Address) (u : Record) (store : Store) (l : Log) (ls : List Log) (w
       → KeepsUnder l.number store (version_dropped u.before.lob.page k free store)
   drop_under k free versioned_so stays = sees_keep store (version_dropped u.before.lob.page k free store) l ls well first (drop_sees a u store l ls well first oldest k free versioned_so stays) (λ n x. refl)
 
+-- where purge begins, each document shows the same under each number of commits
 pub begun_under : (store : Store) → KeepsUnder 0 store (purge_begun store)
 begun_under store d k below = ap (seen (is_among (purge_begun store) k)) (begun_keeps d store) ∙ seen-same _ _ (history store d) (λ x. among_first k x _ store (λ l. refl) (λ l. refl))
 
+-- so where the first committed log gets other pages
 pub pages_under : (pages : List ℕ) (store : Store) → KeepsUnder 0 store (log_pages_left pages store)
 pages_under pages store d k below = ap (seen (is_among (log_pages_left pages store) k)) (pages_keep d pages store) ∙ seen-same _ _ (history store d) (λ x. among_first k x _ store (λ l. refl) (λ l. refl))
 
+-- so from its own commit number on, where the first log goes, which has no records left
 pub log_under : (store : Store) (l : Log) (ls : List Log) → store.committed ≡ l ∷ ls → l.records ≡ [] → KeepsUnder l.number store (log_purged store)
 log_under store l ls first none d k below = ap (seen (is_among (log_purged store) k)) (log_keeps d store l ls first none) ∙ seen-same _ _ (history store d) (λ x. log_among k x store l ls first below)
 
 -- ---- changes: an active transaction is among no first commits
 
+-- a transaction that has an active log is among no first commits
 pub open_unseen : (store : Store) (k trx : ℕ) → stands trx store.active ≡ true → is_among store k trx ≡ false
 open_unseen store k trx there = ap (λ (b : Bool). not b && not (stands_above k trx store.committed)) there
 

@@ -20,9 +20,11 @@ use Rattle.store_model.proofs.FurtherLemmas.{keeps_older, keeps_all, same_elsewh
 
 -- ---- the last event of a record
 
+-- a transaction's newest record is its document's newest change, in front of those left without it
 pub changes-popped : (trx : ℕ) (place : Address) (u : Record) (store : Store) → IsNewest trx place u store → changes store u.doc ≡ change trx place u ∷ changes (without_newest trx u store) u.doc
 changes-popped trx place u store new = ap (λ cs. cs ++ committed_changes u.doc store.committed) (active-popped trx u.doc place u store.active new.newest new.idle refl)
 
+-- another document keeps its changes where that record goes
 pub changes-popped_other : (trx : ℕ) (place : Address) (u : Record) (store : Store) (d : ℕ) → IsNewest trx place u store → d ≢ u.doc → changes (without_newest trx u store) d ≡ changes store d
 changes-popped_other trx place u store d new other = ap (λ cs. cs ++ committed_changes d store.committed) (active-popped_other trx d place u store.active new.newest (λ e. other (sym e)))
 
@@ -49,6 +51,7 @@ unmade_same (versioned pieces touched) before lobs cs elsewhere c rest e b =
 unmade_same (patched old) before lobs cs elsewhere c rest e b = refl
 unmade_same removed before lobs cs elsewhere c rest e b = ap (λ ls. history_on ls before rest) (sym (laid_none lobs))
 
+-- an undone record takes the newest row from its document's history, where a row is left
 pub undo_own : (trx : ℕ) (place : Address) (u : Record) (store : Store) → IsNewest trx place u store → OlderElsewhere u.body (changes store u.doc)
     → is_gone (without_newest trx u store) u.before.state u.before ≡ false
     → history (undo_ended trx u store) u.doc ≡ all_but_first (history store u.doc)
@@ -92,6 +95,7 @@ unmade_others (versioned pieces touched) before store d elsewhere =
 unmade_others (patched old) before store d elsewhere = rows_so (IsUntouched old store.lobs) _ store d (untouched_same old store.lobs) elsewhere
 unmade_others removed before store d elsewhere = ((λ is_live. refl), all_of _ (changes store d) (λ row is_live. refl))
 
+-- an undone record leaves another document's history, which shows nothing that the record made
 pub undo_others : (trx : ℕ) (place : Address) (u : Record) (store : Store) (d : ℕ) → IsNewest trx place u store → d ≢ u.doc → OthersElsewhere u.body store d → KeepsAll d store (undo_ended trx u store)
 undo_others trx place u store d new other elsewhere =
     by_test (is_gone mid u.before.state u.before)

@@ -186,8 +186,10 @@ newest_shows store d l has is_live there = newest_content store.lobs (row_before
 pub begun_versions : (trx page : ℕ) (store : Store) → HasVersions store → HasVersions (log_begun trx page store)
 begun_versions trx page store has d = has d
 
+-- LOB versions hold on where the first committed log keeps its records and its transaction
 pub first_versions : (f : Log → Log) (store : Store) → ((m : Log) → (f m).records ≡ m.records) → ((m : Log) → (f m).trx ≡ m.trx) → HasVersions store → HasVersions (on_oldest f store)
 first_versions f store r t has d = subst (HoldsOf store.lobs (row_before store d)) (sym (ap (λ cs. active_changes d store.active ++ cs) (changes-first d f store.committed r t))) (has d)
 
+-- so where the first committed log goes, which has no records left
 pub purged_versions : (store : Store) (l : Log) (ls : List Log) → store.committed ≡ l ∷ ls → l.records ≡ [] → HasVersions store → HasVersions (log_purged store)
 purged_versions store l ls first none has d = subst (HoldsOf store.lobs (row_before store d)) (sym (log_changes_kept d store l ls first none)) (has d)

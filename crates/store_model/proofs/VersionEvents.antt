@@ -23,6 +23,7 @@ use Rattle.store_model.proofs.VersionLemmas.{up_more, holds_laid, holds_on, hold
 
 -- ---- a change is begun
 
+-- a live newest row's LOB has its version, as has that before each change of kind Full or Removed
 abbrev pub HoldsOf : List Lob → Row → List Change → Type 0
 HoldsOf lobs row cs = (row.state ≡ live → HoldsAt lobs row) × HoldBehind lobs cs
 
@@ -96,6 +97,7 @@ module _ (p : Plan) (store : Store) (may : MayChange p store) (well : IsWell sto
 
 -- ---- one LOB changes
 
+-- LOB versions hold on where one LOB keeps its version and gets no newer entry
 pub lob_versions : (page : ℕ) (f : Lob → Lob) (store : Store) → IsWell store → ((l : Lob) → (f l).page ≡ l.page) → ((l : Lob) → (f l).version ≡ l.version)
     → ((l : Lob) → lob_of store.lobs page ≡ Some l → AreUpTo l.version l.pieces → AreUpTo l.version (f l).pieces) → HasVersions store → HasVersions (on_lobs (on_lob page f) store)
 lob_versions page f store well same version keeps has d = (
@@ -108,9 +110,11 @@ up_piece v k f [] keeps all = tt
 up_piece v zero f (p ∷ ps) keeps all = (keeps p all.0, all.1)
 up_piece v (suc k) f (p ∷ ps) keeps all = (all.0, up_piece v k f ps keeps all.1)
 
+-- entries stay up to a version where one up to it is pushed to a piece
 pub up_pushed : (v k : ℕ) (node : Address) (x : Version) (ps : List Piece) → x.number ≤ v → AreUpTo v ps → AreUpTo v (on_piece k (pushed node x) ps)
 up_pushed v k node x ps up all = up_piece v k (pushed node x) ps (λ p numbers. (up, numbers)) all
 
+-- so where a piece loses its newest version
 pub up_popped : (v k : ℕ) (ps : List Piece) → AreUpTo v ps → AreUpTo v (on_piece k popped ps)
 up_popped v k ps all = up_piece v k popped ps (λ p numbers. one p p.older refl numbers) all
   where
@@ -123,13 +127,16 @@ older_front v [] all = tt
 older_front v (x ∷ []) all = tt
 older_front v (x ∷ y ∷ ys) all = (all.0, older_front v (y ∷ ys) all.1)
 
+-- so where a piece loses its oldest version
 pub up_dropped : (v k : ℕ) (ps : List Piece) → AreUpTo v ps → AreUpTo v (on_piece k dropped ps)
 up_dropped v k ps all = up_piece v k dropped ps (λ p numbers. (numbers.0, older_front v p.older numbers.1)) all
 
+-- so where a piece is added whose entries are up to it
 pub up_added : (v : ℕ) (p : Piece) (ps : List Piece) → AreOlderUpTo v (p.head ∷ p.older) → AreUpTo v ps → AreUpTo v (ps ++ p ∷ [])
 up_added v p [] up all = (up, tt)
 up_added v p (q ∷ qs) up all = (all.0, up_added v p qs up all.1)
 
+-- so where the last piece goes
 pub up_front : (v : ℕ) (ps : List Piece) → AreUpTo v ps → AreUpTo v (all_but_last ps)
 up_front v [] all = tt
 up_front v (p ∷ []) all = tt
@@ -137,6 +144,7 @@ up_front v (p ∷ q ∷ qs) all = (all.0, up_front v (q ∷ qs) all.1)
 
 -- ---- commit
 
+-- LOB versions hold on where a transaction is committed
 pub commit_versions : (trx : ℕ) (store : Store) → IsWell store → HasVersions store → HasVersions (committed_by trx store)
 commit_versions trx store well has d = by_log (log_of store.active trx) refl
   where

@@ -58,6 +58,8 @@ all_in P Q row cs so all = (so row all.0, all-rows P Q cs so all.1)
 
 -- ---- a record is undone
 
+-- a store stays well-formed where a transaction's newest record is undone, if a document whose row
+-- goes has no other change
 pub well_undone : (trx : ℕ) (place : Address) (u : Record) (store : Store) → IsWell store → IsNewest trx place u store
     → (is_gone (without_newest trx u store) u.before.state u.before ≡ true → changes (without_newest trx u store) u.doc ≡ [])
     → IsWell (undo_ended trx u store)
@@ -136,11 +138,13 @@ swept_well a trx d u store (b ∷ bs) chain once newest is_removed =
     let n = newest_row a trx (row_of store d) newest in
     absurd (new_last b.place bs (change trx a u) once.0 (is_at-true a (row_before store d).roll b.place chain.0.roll n.1))
 
+-- where the first committed log's oldest record is passed, its document loses its oldest change
 pub passed_all : (a : Address) (u : Record) (store : Store) (l : Log) (ls : List Log) → store.committed ≡ l ∷ ls → last_in l.records ≡ (a, u) ∷ []
     → changes store u.doc ≡ changes (on_oldest passed store) u.doc ++ change l.trx a u ∷ []
 passed_all a u store l ls first oldest = passed_changes u.doc store l ls first
     ∙ ap (λ us. changes (on_oldest passed store) u.doc ++ us) (ap (changes_among u.doc l.trx) oldest ∙ among_this u.doc l.trx a u [] refl)
 
+-- so by the whole event, which may sweep the row and clear a LOB
 pub passed_own : (a : Address) (u : Record) (store : Store) (l : Log) (ls : List Log) → store.committed ≡ l ∷ ls → last_in l.records ≡ (a, u) ∷ []
     → changes store u.doc ≡ changes (record_passed a l.trx u store) u.doc ++ change l.trx a u ∷ []
 passed_own a u store l ls first oldest = passed_all a u store l ls first oldest
@@ -150,6 +154,7 @@ numbered_first : (n : ℕ) (f : Log → Log) (ls : List Log) → ((l : Log) → 
 numbered_first n f [] same all = tt
 numbered_first n f (l ∷ ls) same all = (omega (arith, same l, all.0), all.1)
 
+-- the sweep of a deleted row leaves the logs and the number of commits
 pub swept_rest : (body : Body) (a : Address) (trx d : ℕ) (store : Store) → ((swept body a trx d store).active ≡ store.active) × ((swept body a trx d store).committed ≡ store.committed) × ((swept body a trx d store).commits ≡ store.commits)
 swept_rest (inserted page) a trx d store = (refl, refl, refl)
 swept_rest (rebuilt page) a trx d store = (refl, refl, refl)
@@ -161,6 +166,7 @@ swept_rest removed a trx d store = by_test (is_newest a trx (row_of store d))
     by_test true = (refl, refl, refl)
     by_test false = (refl, refl, refl)
 
+-- and the next transaction id
 pub swept_next : (body : Body) (a : Address) (trx d : ℕ) (store : Store) → (swept body a trx d store).next_trx ≡ store.next_trx
 swept_next (inserted page) a trx d store = refl
 swept_next (rebuilt page) a trx d store = refl
@@ -172,6 +178,7 @@ swept_next removed a trx d store = by_test (is_newest a trx (row_of store d))
     by_test true = refl
     by_test false = refl
 
+-- a store stays well-formed where purge passes the oldest record of the first committed log
 pub well_passed : (a : Address) (u : Record) (store : Store) (l : Log) (ls : List Log) → IsWell store → store.committed ≡ l ∷ ls → last_in l.records ≡ (a, u) ∷ []
     → IsWell (record_passed a l.trx u store)
 well_passed a u store l ls well first oldest = elim (swept_row u.body a l.trx u.doc u.doc mid) [
@@ -237,6 +244,7 @@ well_passed a u store l ls well first oldest = elim (swept_row u.body a l.trx u.
 
 -- ---- the first committed log changes, and goes
 
+-- a store with all rows and changes of a well-formed one is well-formed, if its logs are in order
 pub well_logs : (store after : Store) → IsWell store → ((d : ℕ) → row_before after d ≡ row_before store d) → ((d : ℕ) → changes after d ≡ changes store d)
     → AreDistinct (after.active ++ after.committed) → ((d : ℕ) → IsLocked d after.active) → NumberedTo after.commits after.committed → IsWell after
 well_logs store after well rows same distinct locked numbered = record {
@@ -252,9 +260,11 @@ pub well_first : (f : Log → Log) (store : Store) → ((l : Log) → (f l).reco
 well_first f store r t n well = well_logs store (on_oldest f store) well (λ d. refl) (λ d. ap (λ cs. active_changes d store.active ++ cs) (changes-first d f store.committed r t))
     (distinct_first f store.active store.committed t well.logs) well.locked (numbered_first store.commits f store.committed n well.numbered)
 
+-- a store stays well-formed where purge begins
 pub well_begun : (store : Store) → IsWell store → IsWell (purge_begun store)
 well_begun store well = well_first _ store (λ l. refl) (λ l. refl) (λ l. refl) well
 
+-- so where the first committed log gets other pages
 pub well_pages : (pages : List ℕ) (store : Store) → IsWell store → IsWell (log_pages_left pages store)
 well_pages pages store well = well_first _ store (λ l. refl) (λ l. refl) (λ l. refl) well
 
@@ -262,6 +272,7 @@ numbered_rest : (n : ℕ) (ls : List Log) → NumberedTo n ls → NumberedTo n (
 numbered_rest n [] all = tt
 numbered_rest n (l ∷ ls) all = all.1
 
+-- so where the first committed log goes, which has no records left
 pub well_purged : (store : Store) (l : Log) (ls : List Log) → IsWell store → store.committed ≡ l ∷ ls → l.records ≡ [] → IsWell (log_purged store)
 well_purged store l ls well first none = well_logs store (log_purged store) well (λ d. refl) (λ d. log_changes_kept d store l ls first none)
     (distinct_rest store.active store.committed well.logs) well.locked (numbered_rest store.commits store.committed well.numbered)

@@ -24,9 +24,11 @@ pub both_in : (P Q R : Row → Type 0) (row : Row) (cs : List Change) → ((r : 
 both_in P Q R row [] so p q = (so row p.0 q.0, tt)
 both_in P Q R row (c ∷ cs) so p q = (so row p.0 q.0, both_in P Q R c.undo.before cs so p.1 q.1)
 
+-- what is a chain stays one by an equal row and equal changes
 pub chain_same : (r s : Row) (cs ds : List Change) → r ≡ s → cs ≡ ds → IsChain s ds → IsChain r cs
 chain_same r s cs ds a b chain = subst (λ x. IsChain x cs) (sym a) (subst (IsChain s) (sym b) chain)
 
+-- two documents' rows that are apart stay so by equal rows and equal changes
 pub apart_same : (r s r' s' : Row) (cs ds cs' ds' : List Change) → r ≡ s → cs ≡ ds → r' ≡ s' → cs' ≡ ds' → AreApart s ds s' ds' → AreApart r cs r' cs'
 apart_same r s r' s' cs ds cs' ds' a b a' b' apart =
     subst (λ x. AreApart x cs r' cs') (sym a) (subst (λ x. AreApart s x r' cs') (sym b) (subst (λ x. AreApart s ds x cs') (sym a') (subst (AreApart s ds s') (sym b') apart)))
@@ -105,30 +107,36 @@ well_begins p new body f store well may step gets fresh = record {
 
 -- ---- each kind of change
 
+-- a store stays well-formed where an insert is begun for a row that isn't live, if its LOB is no
+-- live row's and no change of the document stands at the record's place
 pub well_insert : (p : Plan) (lob : Lob) (n : ℕ) (store : Store) → IsWell store → MayChange p store → IsNew p.place (changes store p.doc) → IsUnnamed lob.page store
     → (row_before store p.doc).state ≢ live → IsWell (insert_begun p lob n store)
 well_insert p lob n store well may fresh unnamed before =
     well_begins p (new_row p lob.page n) (inserted lob.page) (λ ls. ls ++ lob ∷ []) store well may
     (record { trx = refl; roll = refl; kind = (refl, refl, before); fresh = unnamed p.doc }) (λ e other is_live. unnamed e) fresh
 
+-- so where a change of kind Full is begun for a live row
 pub well_rebuild : (p : Plan) (lob : Lob) (n : ℕ) (store : Store) → IsWell store → MayChange p store → IsNew p.place (changes store p.doc) → IsUnnamed lob.page store
     → (row_before store p.doc).state ≡ live → IsWell (rebuild_begun p lob n store)
 well_rebuild p lob n store well may fresh unnamed before =
     well_begins p (new_row p lob.page n) (rebuilt lob.page) (λ ls. ls ++ lob ∷ []) store well may
     (record { trx = refl; roll = refl; kind = (refl, refl, before); fresh = unnamed p.doc }) (λ e other is_live. unnamed e) fresh
 
+-- so where a change of kind Versioned is begun for a live row
 pub well_version : (p : Plan) (pieces : ℕ) (touched : List ℕ) (store : Store) → IsWell store → MayChange p store → IsNew p.place (changes store p.doc)
     → (row_before store p.doc).state ≡ live → IsWell (version_begun p pieces touched store)
 well_version p pieces touched store well may fresh before =
     well_begins p (raised_row p) (versioned pieces touched) (on_lob (row_before store p.doc).lob.page (at_version (suc (row_before store p.doc).lob.version))) store well may
     (record { trx = refl; roll = refl; kind = (before, before, refl); fresh = tt }) (λ e other is_live. (well.apart p.doc e (λ q. other (sym q))).0 before) fresh
 
+-- so where a live row's LOB is changed in place
 pub well_patch : (p : Plan) (old new : List Run) (store : Store) → IsWell store → MayChange p store → IsNew p.place (changes store p.doc)
     → (row_before store p.doc).state ≡ live → IsWell (patch_made p old new store)
 well_patch p old new store well may fresh before =
     well_begins p (patched_row p) (patched old) (lobs_laid new) store well may
     (record { trx = refl; roll = refl; kind = (before, before, refl); fresh = tt }) (λ e other is_live. (well.apart p.doc e (λ q. other (sym q))).0 before) fresh
 
+-- so where a live row is deleted
 pub well_delete : (p : Plan) (store : Store) → IsWell store → MayChange p store → IsNew p.place (changes store p.doc)
     → (row_before store p.doc).state ≡ live → IsWell (delete_made p store)
 well_delete p store well may fresh before =
@@ -145,6 +153,7 @@ numbered_last : (n : ℕ) (ls : List Log) (l : Log) → NumberedTo n ls → l.nu
 numbered_last n [] l all last = (last, tt)
 numbered_last n (m ∷ ms) l all last = (all.0, numbered_last n ms l all.1 last)
 
+-- a store stays well-formed where a transaction is committed
 pub well_commit : (trx : ℕ) (store : Store) → IsWell store → IsWell (committed_by trx store)
 well_commit trx store well = by_log (log_of store.active trx) refl
   where

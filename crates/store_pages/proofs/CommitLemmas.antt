@@ -59,6 +59,7 @@ committed_end n (v ∷ vs) m state number all = (all.0, all.1, waiting_end (suc 
 
 -- ---- in a store
 
+-- where its active log is committed in the pages, a transaction is committed in the store
 pub log_committed : (old new : Pages) (store : Store) (trx : ℕ) (x : Log) → IsStore old store → log_in_list store.active trx ≡ Some x
     → ((l : LogThere) → IsLog old l → log_of l ≡ x → (m : LogThere) × CommitsLog l m store.commits old new) → IsStore new (committed_by trx store)
 log_committed old new store trx x is there commits =

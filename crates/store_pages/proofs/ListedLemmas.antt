@@ -11,6 +11,7 @@ use Rattle.store_parts.specs.Standing.{IsStoreBut, AreThere, AreOffNodes, AreOut
 use Rattle.store_pages.proofs.ActiveLemmas as Active
 use Rattle.store_pages.proofs.CommittedLemmas as Committed
 
+-- with the list of active logs linked anew, its logs stand, and the store is the one with these
 pub active_listed : (own own1 own2 : List ℕ) (all logs : List Log) (old new : Pages) (s : Stored) → IsStoreBut own old s → AreThere old all → AreOutIn own1 all
     → ((n : ℕ) → times n (all_pages all) + times n own1 ≡ times n (all_pages s.active) + times n own)
     → ((n : ℕ) → times n (all_pages logs) + times n own2 ≡ times n (all_pages s.active) + times n own)
@@ -19,6 +20,7 @@ pub active_listed : (own own1 own2 : List ℕ) (all logs : List Log) (old new : 
 active_listed own own1 own2 all logs old new s st there outs before after same off list stay =
     (Active.listed_stay own own1 all old new s st there before outs same, Active.relisted own own1 all old new s st there before outs same own2 logs off list stay after)
 
+-- and so it is with the list of committed logs
 pub committed_listed : (own own1 own2 : List ℕ) (all logs : List Log) (old new : Pages) (s : Stored) → IsStoreBut own old s → AreThere old all → AreOutIn own1 all
     → ((n : ℕ) → times n (all_pages all) + times n own1 ≡ times n (all_pages s.committed) + times n own)
     → ((n : ℕ) → times n (all_pages logs) + times n own2 ≡ times n (all_pages s.committed) + times n own)

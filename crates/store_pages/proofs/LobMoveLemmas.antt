@@ -32,6 +32,7 @@ nowhere ms n = omega arith
 
 -- ---- whatever changes in it
 
+-- a LOB that stands changed, with a page taken for it, is changed in the store
 pub lob_grown : (old new : Pages) (store : Store) → IsStore old store → (page : ℕ) (l : Lob) (f : Lob → Lob) (p : ℕ) → lob_of store.lobs page ≡ Some l
     → IsLob new (f l) → TakesFor l p old new → AreAsMany (p ∷ lob_pages l) (lob_pages (f l)) → IsStore new (on_lobs (on_lob page f) store)
 lob_grown old new store is page l f p there lob steps many =
@@ -46,6 +47,7 @@ lob_grown old new store is page l f p there lob steps many =
     (times_here p (lob_pages l), on_wider (lob_pages l) own (lob_spans l) (λ n. omega arith) (on_pages (lob_pages l))))
     (keeps_same [] own (lob_pages (f l)) new many))))
 
+-- a LOB that stands changed, with one of its pages given back, is changed in the store
 pub lob_shrunk : (old new : Pages) (store : Store) → IsStore old store → (page : ℕ) (l : Lob) (f : Lob → Lob) (p : ℕ) → lob_of store.lobs page ≡ Some l
     → IsLob new (f l) → GivesOf l p old new → AreAsMany (lob_pages l) (p ∷ lob_pages (f l)) → IsStore new (on_lobs (on_lob page f) store)
 lob_shrunk old new store is page l f p there lob steps many =
@@ -72,6 +74,7 @@ cut_last (y ∷ z ∷ zs) x = ap (λ ws. y ∷ ws) (cut_last (z ∷ zs) x)
 
 -- ---- the events
 
+-- a piece added to a LOB, with a page taken for its data, is added in the store
 pub piece_added_in : (old new : Pages) (store : Store) (page : ℕ) (l : Lob) (x : Version) (free : List Address) → IsStore old store → lob_of store.lobs page ≡ Some l
     → x.page ≢ l.page → IsLob new (with_nodes l.index free (with_piece (piece x []) l)) → TakesFor l x.page old new → IsStore new (piece_added page (piece x []) l.index free store)
 piece_added_in old new store page l x free is there other lob steps =
@@ -85,6 +88,7 @@ piece_added_in old new store page l x free is there other lob steps =
         let d = data_one n l.page x [] other in
         omega (arith, a, b, c, d)
 
+-- a piece's newest version popped, and its data page given back, is popped in the store
 pub version_popped_in : (old new : Pages) (store : Store) (page : ℕ) (l : Lob) (bs : List Piece) (h x : Version) (more : List Version) (cs : List Piece) (free : List Address)
     → IsStore old store → lob_of store.lobs page ≡ Some l → l.pieces ≡ bs ++ piece h (x ∷ more) ∷ cs → h.page ≢ l.page
     → IsLob new (record (at_piece (length bs) popped l) { free = free }) → GivesOf l h.page old new → IsStore new (version_popped page (length bs) free store)
@@ -101,6 +105,7 @@ version_popped_in old new store page l bs h x more cs free is there pieces other
         let s : times n (data_pages l.page (piece_versions (popped (piece h (x ∷ more))))) ≡ times n (data_pages l.page (x ∷ more)) = refl in
         omega (arith, a, b, c, d, e, s)
 
+-- a piece's oldest version dropped, and its data page given back, is dropped in the store
 pub version_dropped_in : (old new : Pages) (store : Store) (page : ℕ) (l : Lob) (bs : List Piece) (h : Version) (ys : List Version) (x : Version) (cs : List Piece) (free : List Address)
     → IsStore old store → lob_of store.lobs page ≡ Some l → l.pieces ≡ bs ++ piece h (ys ++ x ∷ []) ∷ cs → x.page ≢ l.page
     → IsLob new (record (at_piece (length bs) dropped l) { free = free }) → GivesOf l x.page old new → IsStore new (version_dropped page (length bs) free store)
@@ -121,6 +126,7 @@ version_dropped_in old new store page l bs h ys x cs free is there pieces other 
         let o = data_one n l.page x [] other in
         omega (arith, a, b, c, d, e, o)
 
+-- a LOB's last piece freed, and its data page given back, is freed in the store
 pub piece_freed_in : (old new : Pages) (store : Store) (page : ℕ) (l : Lob) (ps : List Piece) (x : Version) (free : List Address) → IsStore old store → lob_of store.lobs page ≡ Some l
     → l.pieces ≡ ps ++ piece x [] ∷ [] → x.page ≢ l.page → IsLob new (record (without_piece l) { free = free }) → GivesOf l x.page old new → IsStore new (piece_freed page free store)
 piece_freed_in old new store page l ps x free is there pieces other lob steps =
@@ -134,6 +140,7 @@ piece_freed_in old new store page l ps x free is there pieces other lob steps =
         let d = data_one n l.page x [] other in
         omega (arith, a, b, c, d)
 
+-- a LOB's first index page out of the chain, and given back, is freed in the store
 pub index_freed_in : (old new : Pages) (store : Store) (page : ℕ) (l : Lob) (i : ℕ) (is' : List ℕ) → IsStore old store → lob_of store.lobs page ≡ Some l
     → l.index ≡ i ∷ is' → IsLob new (without_index l) → GivesOf l i old new → IsStore new (index_freed page store)
 index_freed_in old new store page l i is' is there index lob steps =

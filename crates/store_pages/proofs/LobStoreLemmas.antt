@@ -27,6 +27,7 @@ pub record Found (lobs : List Lob) (page : ℕ) (l : Lob) : Type 0 where
   pub changed : (f : Lob → Lob) → on_lob page f lobs ≡ before ++ f l ∷ after
   pub gone : without_lob page lobs ≡ before ++ after
 
+-- a LOB that is found by its first page is one in the list, where it alone is changed or taken out
 pub found : (lobs : List Lob) (page : ℕ) (l : Lob) → lob_of lobs page ≡ Some l → Found lobs page l
 found [] page l is = absurd (not_some l is)
 found (m ∷ ms) page l is = elim (eqb_tells m.page page) [
@@ -56,6 +57,7 @@ found (m ∷ ms) page l is = elim (eqb_tells m.page page) [
 
 -- ---- in a store
 
+-- where no log is taken out, those that are begin in no pages
 pub none_out : (logs : List Log) → AreIn logs → AreOutIn [] logs
 none_out [] all = tt
 none_out (l ∷ more) all = ((λ is. absurd (all.0 is)), none_out more all.1)
@@ -76,6 +78,7 @@ shows_lobs s store ls g is same = record {
 whole_lobs : (s : Stored) (ls : List Lob) → IsWhole s → IsWhole (with_lobs ls s)
 whole_lobs s ls is = record { active = is.active; committed = is.committed; count = is.count; active_in = is.active_in; committed_in = is.committed_in }
 
+-- pages with none behind them count as they do alone
 pub plus_none : (ns : List ℕ) (n : ℕ) → times n (ns ++ []) ≡ times n ns
 plus_none ns n = let a = times-append n ns [] in omega (arith, a)
 

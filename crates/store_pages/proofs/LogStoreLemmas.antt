@@ -36,6 +36,7 @@ pub record FoundLog (logs : List LogThere) (trx : ℕ) (x : Log) : Type 0 where
   pub changed : (f : Log → Log) (m : LogThere) → log_of m ≡ f (log_of log) → on_log trx f (logs_of logs) ≡ logs_of (before ++ m ∷ after)
   pub gone : without_log trx (logs_of logs) ≡ logs_of (before ++ after)
 
+-- a transaction's log that is found is one in the list, where it alone is changed or taken out
 pub found_log : (logs : List LogThere) (trx : ℕ) (x : Log) → log_in_list (logs_of logs) trx ≡ Some x → FoundLog logs trx x
 found_log [] trx x is = absurd (not_some x is)
 found_log (m ∷ ms) trx x is = elim (eqb_tells m.trx trx) [
@@ -64,6 +65,7 @@ found_log (m ∷ ms) trx x is = elim (eqb_tells m.trx trx) [
 
 -- ---- facts of all logs, but for one that changes
 
+-- where no log is taken out, each of them has pages
 pub in_at : (vs : List LogThere) (l : LogThere) (bs : List LogThere) → AreIn (vs ++ l ∷ bs) → l.parts ≢ []
 in_at [] l bs all = all.0
 in_at (v ∷ vs) l bs all = in_at vs l bs all.1
@@ -72,6 +74,7 @@ in_set : (vs : List LogThere) (l m : LogThere) (bs : List LogThere) → m.parts 
 in_set [] l m bs some all = (some, all.1)
 in_set (v ∷ vs) l m bs some all = (all.0, in_set vs l m bs some all.1)
 
+-- with one log taken out, those that are begin in its first page
 pub out_at : (vs : List LogThere) (l : LogThere) (bs : List LogThere) → AreIn (vs ++ l ∷ bs) → AreOutIn (l.page ∷ []) (vs ++ out l ∷ bs)
 out_at [] l bs all = ((λ is. times_here l.page []), wider bs all.1)
   where
@@ -80,6 +83,7 @@ out_at [] l bs all = ((λ is. times_here l.page []), wider bs all.1)
     wider (k ∷ ks) are = ((λ is. absurd (are.0 is)), wider ks are.1)
 out_at (v ∷ vs) l bs all = ((λ is. absurd (all.0 is)), out_at vs l bs all.1)
 
+-- where no log is taken out, those that are begin in whatever pages
 pub all_out : (firsts : List ℕ) (ls : List LogThere) → AreIn ls → AreOutIn firsts ls
 all_out firsts [] are = tt
 all_out firsts (k ∷ ks) are = ((λ is. absurd (are.0 is)), all_out firsts ks are.1)
@@ -92,32 +96,39 @@ active_set : (vs : List LogThere) (l m : LogThere) (bs : List LogThere) → m.st
 active_set [] l m bs is all = (is, all.1)
 active_set (v ∷ vs) l m bs is all = (all.0, active_set vs l m bs is all.1)
 
+-- a log that stands in pages has at least one
 pub some_parts : (pages : Pages) (first : ℕ) (parts : List Part) → AreParts pages first parts → parts ≢ []
 some_parts pages first [] are = absurd are
 some_parts pages first (p ∷ older) are = λ e. cc
 
+-- where no log is taken out, none is without one of them in the list
 pub in_cut : (vs : List LogThere) (l : LogThere) (bs : List LogThere) → AreIn (vs ++ l ∷ bs) → AreIn (vs ++ bs)
 in_cut [] l bs all = all.1
 in_cut (v ∷ vs) l bs all = (all.0, in_cut vs l bs all.1)
 
+-- where all logs are active, all are without one of them in the list
 pub active_cut : (vs : List LogThere) (l : LogThere) (bs : List LogThere) → AreActive (vs ++ l ∷ bs) → AreActive (vs ++ bs)
 active_cut [] l bs all = all.1
 active_cut (v ∷ vs) l bs all = (all.0, active_cut vs l bs all.1)
 
+-- where one log at most is taken out, which begins in an own page, those taken out begin in these
 pub outs_at : (own : List ℕ) (vs : List LogThere) (m : LogThere) (bs : List LogThere) → 1 ≤ times m.page own → AreIn vs → AreIn bs → AreOutIn own (vs ++ m ∷ bs)
 outs_at own [] m bs here all more = ((λ is. here), all_out own bs more)
 outs_at own (v ∷ vs) m bs here all more = ((λ is. absurd (all.0 is)), outs_at own vs m bs here all.1 more)
 
+-- where no log is taken out, none of those before one is
 pub in_before : (vs : List LogThere) (l : LogThere) (bs : List LogThere) → AreIn (vs ++ l ∷ bs) → AreIn vs
 in_before [] l bs all = tt
 in_before (v ∷ vs) l bs all = (all.0, in_before vs l bs all.1)
 
+-- and none of those behind it
 pub in_behind : (vs : List LogThere) (l : LogThere) (bs : List LogThere) → AreIn (vs ++ l ∷ bs) → AreIn bs
 in_behind [] l bs all = all.1
 in_behind (v ∷ vs) l bs all = in_behind vs l bs all.1
 
 -- ---- in a store
 
+-- a transaction's active log stands in pages, and the store changes as it changes there
 pub log_at : (old : Pages) (store : Store) (trx : ℕ) (x : Log) → IsStore old store → log_in_list store.active trx ≡ Some x → LogAt old store trx x
 log_at old store trx x is there =
     let s = is.stored in

@@ -13,6 +13,7 @@ use Rattle.store_parts.specs.Standing.{AreThere, AreOn, AreOffNodes, AreOutIn}
 use Rattle.store_parts.specs.Shows.{AreIn}
 use Rattle.store_parts.proofs.CountLemmas.{on_wider, first_on}
 
+-- the nodes of logs lie in pages of these, or in own ones where a log is taken out
 pub on_nodes : (own : List ℕ) (pages : Pages) (ls : List Log) → AreThere pages ls → AreOutIn own ls → AreOn (all_pages ls ++ own) (map node_span (log_nodes ls))
 on_nodes own pages [] are outs = tt
 on_nodes own pages (l ∷ more) are outs =
@@ -43,6 +44,7 @@ node_off_parts pages first (p ∷ q ∷ older) are once = (
     no : 1 ≤ 0 → ⊥
     no h = absurd (omega arith)
 
+-- spans apart from a base, from the nodes of other logs and from one log's are apart from them all
 pub nodes_from : (b : Span) (us : List Log) (l : Log) (ws : List Log) (ts : List Span) → AreApart (node_span (log_node l.page) ∷ []) ts → AreApart (b ∷ map node_span (log_nodes (us ++ ws))) ts
     → AreApart (b ∷ map node_span (log_nodes (us ++ l ∷ ws))) ts
 nodes_from b us l ws [] mine others = tt
@@ -52,6 +54,7 @@ nodes_from b us l ws (t ∷ ts) mine others = ((others.0.0, one us others.0.1), 
     one [] apart = (mine.0.0, apart)
     one (v ∷ vs) apart = (apart.0, one vs apart.1)
 
+-- logs that stand in pages stand there without one of them in the list
 pub there_cut : (pages : Pages) (us : List Log) (l : Log) (ws : List Log) → AreThere pages (us ++ l ∷ ws) → AreThere pages (us ++ ws)
 there_cut pages [] l ws are = are.1
 there_cut pages (u ∷ us) l ws are = (are.0, there_cut pages us l ws are.1)

@@ -49,6 +49,7 @@ waiting_committed n (l ∷ ls) are = ((λ e. other (sym are.0 ∙ e)), are.1, ar
     other : committed ≢ active
     other = λ e. cc
 
+-- the oldest committed log stands in pages, and the store changes as it changes there, or is purged
 pub oldest_at : (old : Pages) (store : Store) (x : Log) (xs : List Log) → IsStore old store → store.committed ≡ x ∷ xs → OldestAt old store x
 oldest_at old store x xs is there =
     let s = is.stored in

@@ -29,6 +29,7 @@ data_same n first (x ∷ xs) = by (x.page == first) (data_same n first xs)
     by true r = r
     by false r = omega (arith, r)
 
+-- the data pages of two lists of versions joined count as those of each, added up
 pub data_split : (n first : ℕ) (xs ys : List Version) → times n (data_pages first (xs ++ ys)) ≡ times n (data_pages first xs) + times n (data_pages first ys)
 data_split n first [] ys = omega arith
 data_split n first (x ∷ xs) ys = by (x.page == first) (data_split n first xs ys)
@@ -132,6 +133,7 @@ first_held : (n : ℕ) (ls : List Lob) → times n (first_pages ls) ≤ times n 
 first_held n [] = omega arith
 first_held n (l ∷ ls) = let r = first_held n ls in let a = times-append n (lob_pages l) (pages_of ls) in omega (arith, r, a)
 
+-- a store owns the pages that its parts hold, where it owns each LOB once and holds no page twice
 pub held_owned : (s : Stored) (store : Store) (n : ℕ) → Shows s store → HasLobs store → ((m : ℕ) → times m (held s) ≤ 1) → times n (owned store) ≡ times n (held s)
 held_owned s store n is has once =
     let once_lobs : (m : ℕ) → times m (first_pages store.lobs) ≤ 1 = λ m. (let o = once m in let p = times-parts m s in let f = first_held m s.lobs in

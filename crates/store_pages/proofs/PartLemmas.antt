@@ -66,6 +66,7 @@ module _ (own : List ℕ) (pages : Pages) (s : Stored) (bs : List Lob) (l : Lob)
 
 -- ---- logs
 
+-- the pages of logs count as those of one of them and of the others, added up
 pub times-logs : (n : ℕ) (vs : List Log) (l : Log) (bs : List Log) → times n (all_pages (vs ++ l ∷ bs)) ≡ times n (pages_in l.parts) + times n (all_pages (vs ++ bs))
 times-logs n [] l bs = times-append n (pages_in l.parts) (all_pages bs)
 times-logs n (a ∷ vs) l bs =
@@ -74,6 +75,7 @@ times-logs n (a ∷ vs) l bs =
     let r = times-logs n vs l bs in
     omega (arith, x, y, r)
 
+-- a log with the same first page, in the place of another, leaves the nodes of the list
 pub nodes_same : (vs : List Log) (l m : Log) (bs : List Log) → l.page ≡ m.page → log_nodes (vs ++ l ∷ bs) ≡ log_nodes (vs ++ m ∷ bs)
 nodes_same [] l m bs same = ap (λ p. (let a : Address = record { page = p; at = 67 } in a) ∷ log_nodes bs) same
 nodes_same (a ∷ vs) l m bs same = ap (λ ns. (let b : Address = record { page = a.page; at = 67 } in b) ∷ ns) (nodes_same vs l m bs same)

@@ -48,10 +48,12 @@ places_on l (a ∷ more) are = (place_on l a are.0, places_on l more are.1)
 
 -- ---- plain data
 
+-- a change of the piece of a number changes the one with so many before it
 pub on_piece_at : (g : Piece → Piece) (bs : List Piece) (p : Piece) (cs : List Piece) → on_piece (length bs) g (bs ++ p ∷ cs) ≡ bs ++ g p ∷ cs
 on_piece_at g [] p cs = refl
 on_piece_at g (b ∷ bs) p cs = ap (λ ps. b ∷ ps) (on_piece_at g bs p cs)
 
+-- the data pages of pieces count as those before a piece, its own and those behind it, added up
 pub data_cut : (n first : ℕ) (bs : List Piece) (q : Piece) (cs : List Piece)
     → times n (data_pages first (versions (bs ++ q ∷ cs))) ≡ times n (data_pages first (versions bs)) + (times n (data_pages first (piece_versions q)) + times n (data_pages first (versions cs)))
 data_cut n first bs q cs =

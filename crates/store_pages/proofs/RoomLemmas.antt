@@ -29,6 +29,7 @@ used_nodes pages (p ∷ older) used = join (nodes_in older) (used_nodes pages ol
     join [] are = let u = used p.page (times_here p.page (pages_in older)) in (u.0, u.1, tt)
     join (x ∷ xs) are = (are.0, are.1, join xs are.2)
 
+-- a record can be appended to an active log that stands in a store
 pub can_append : (pages : Pages) (s : Stored) (l : Log) → IsStoreBut [] pages s → IsLog pages l → l.state ≡ active → ((n : ℕ) → times n (pages_in l.parts) ≤ times n (part_pages s)) → CanAppend l pages
 can_append pages s l st log is_active within =
     let of_mark : (n : ℕ) → 1 ≤ times n (pages_in l.parts) → 1 ≤ mark pages n = λ n h. (let m = st.marks n in let w = within n in omega (arith, m, w, h)) in

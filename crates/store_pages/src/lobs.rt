@@ -35,7 +35,8 @@ pub fn piece_is_added()
     ensures { (old new : Pages) (store : Store) (page : ℕ) (l : Lob) (x : Version)
         (free : List Address) → IsStore old store → lob_of store.lobs page ≡ Some l
         → x.page ≢ l.page → IsLob new (with_nodes l.index free (with_piece (piece x []) l))
-        → TakesFor l x.page old new → IsStore new (piece_added page (piece x []) l.index free store) }
+        → TakesFor l x.page old new → IsStore new
+        (piece_added page (piece x []) l.index free store) }
 {}
 
 /// A version is popped, and the page of its data is given back.

@@ -98,14 +98,17 @@ pub fn rows_move()
 pub fn counters_move()
     ensures next_trx { (own : List ℕ) (old new : Pages) (s : Stored) → IsStoreBut own old s
         → (v : ℕ) → SetsField 0 NEXT_TRX_ID 8 v old new
-        → AreOffNodes (span 0 NEXT_TRX_ID 8 ∷ []) s.active → AreOffNodes (span 0 NEXT_TRX_ID 8 ∷ []) s.committed
+        → AreOffNodes (span 0 NEXT_TRX_ID 8 ∷ []) s.active
+        → AreOffNodes (span 0 NEXT_TRX_ID 8 ∷ []) s.committed
         → IsStoreBut own new (with_counters v s.commits s.purged s) }
     ensures commits { (own : List ℕ) (old new : Pages) (s : Stored) → IsStoreBut own old s → (v : ℕ)
         → SetsField 0 COMMITS 8 v old new
-        → AreOffNodes (span 0 COMMITS 8 ∷ []) s.active → AreOffNodes (span 0 COMMITS 8 ∷ []) s.committed
+        → AreOffNodes (span 0 COMMITS 8 ∷ []) s.active
+        → AreOffNodes (span 0 COMMITS 8 ∷ []) s.committed
         → IsStoreBut own new (with_counters s.next_trx v s.purged s) }
     ensures purged { (own : List ℕ) (old new : Pages) (s : Stored) → IsStoreBut own old s → (v : ℕ)
         → SetsField 0 PURGED_COMMITS 8 v old new
-        → AreOffNodes (span 0 PURGED_COMMITS 8 ∷ []) s.active → AreOffNodes (span 0 PURGED_COMMITS 8 ∷ []) s.committed
+        → AreOffNodes (span 0 PURGED_COMMITS 8 ∷ []) s.active
+        → AreOffNodes (span 0 PURGED_COMMITS 8 ∷ []) s.committed
         → IsStoreBut own new (with_counters s.next_trx s.commits v s) }
 {}

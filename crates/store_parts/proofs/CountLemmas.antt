@@ -18,6 +18,7 @@ use Rattle.store_parts.specs.Standing.{mark, AreOn}
 bit_small : (pages : Pages) (n : ℕ) → bit pages n ≤ 1
 bit_small pages n = let b = bit_at-lt (byte pages 0 (place_of n)) (n % 8) in omega (arith, b)
 
+-- the mark of a page is 0 or 1
 pub mark_small : (pages : Pages) (n : ℕ) → mark pages n ≤ 1
 mark_small pages n = by (nat_lt n (length pages))
   where
@@ -27,14 +28,17 @@ mark_small pages n = by (nat_lt n (length pages))
 
 -- ---- spans by the pages that they lie in
 
+-- spans that lie in some pages lie in more of them too
 pub on_wider : (ns ms : List ℕ) (ts : List Span) → ((n : ℕ) → times n ns ≤ times n ms) → AreOn ns ts → AreOn ms ts
 on_wider ns ms [] more on = tt
 on_wider ns ms (t ∷ ts) more on = (let m = more t.page in omega (arith, m, on.0), on_wider ns ms ts more on.1)
 
+-- spans of two lists that lie in some pages lie there joined
 pub on_join : (ns : List ℕ) (ss ts : List Span) → AreOn ns ss → AreOn ns ts → AreOn ns (ss ++ ts)
 on_join ns [] ts a b = b
 on_join ns (s ∷ ss) ts a b = (a.0, on_join ns ss ts a.1 b)
 
+-- spans in other pages than that of a span are apart from it
 pub off_page : (ns : List ℕ) (ss : List Span) (t : Span) → AreOn ns ss → times t.page ns ≡ 0 → IsApartFromAll ss t
 off_page ns [] t on none = tt
 off_page ns (s ∷ ss) t on none = (inl (λ (e : t.page ≡ s.page). absurd (no (let c : times t.page ns ≡ times s.page ns = ap (λ n. times n ns) e in omega (arith, c, none, on.0)))), off_page ns ss t on.1 none)
@@ -47,14 +51,17 @@ pub apart_on : (ns ms : List ℕ) (ss ts : List Span) → ((n : ℕ) → 1 ≤ t
 apart_on ns ms ss [] none on at = tt
 apart_on ns ms ss (t ∷ ts) none on at = (off_page ns ss t on (none t.page at.0), apart_on ns ms ss ts none on at.1)
 
+-- the spans of whole pages lie in these pages
 pub on_pages : (ns : List ℕ) → AreOn ns (map whole_page ns)
 on_pages [] = tt
 on_pages (n ∷ ns) = (times_here n ns, on_wider ns (n ∷ ns) (map whole_page ns) (λ k. omega arith) (on_pages ns))
 
+-- the spans of row pages lie in these pages
 pub on_rows : (rows : List RowPage) → AreOn (row_pages rows) (page_spans rows)
 on_rows [] = tt
 on_rows (p ∷ more) = (times_here p.page (row_pages more), on_wider (row_pages more) (p.page ∷ row_pages more) (page_spans more) (λ k. omega arith) (on_rows more))
 
+-- the spans of a log's parts lie in the pages of these
 pub on_parts : (parts : List Part) → AreOn (pages_in parts) (part_spans parts)
 on_parts [] = tt
 on_parts (p ∷ []) = (times_here p.page [], (times_here p.page [], tt))

@@ -22,6 +22,7 @@ use Rattle.store_parts.specs.Stored.{Stored, row_pages, pages_of, part_pages, he
 use Rattle.store_parts.specs.Standing.{mark, AreThere, AreLobs, IsStoreBut, AreOn, AreOffNodes, Moves}
 use Rattle.store_parts.proofs.CountLemmas.{mark_small, on_wider, apart_on, off_page, on_pages, on_rows, on_parts, first_on}
 
+-- the pages of a store's parts count as those of its rows, its logs and its LOBs, added up
 pub times-parts : (n : ℕ) (s : Stored)
     → times n (part_pages s) ≡ times n (row_pages s.rows) + (times n (all_pages s.active) + (times n (all_pages s.committed) + times n (pages_of s.lobs)))
 times-parts n s =
@@ -32,9 +33,11 @@ times-parts n s =
 
 -- ---- what lies in page 0
 
+-- bytes of page 0 before the count of free pages are apart from this and from the map's bits
 pub off_map_low : (at size : ℕ) → at + size ≤ 62 → IsApartFromAll map_spans (span 0 at size)
 off_map_low at size low = (inr (inl low), (inr (inl (omega (arith, low))), tt))
 
+-- and so are those between this count and these bits
 pub off_map_between : (at size : ℕ) → 66 ≤ at → at + size ≤ 128 → IsApartFromAll map_spans (span 0 at size)
 off_map_between at size high low = (inr (inr (omega (arith, high))), (inr (inl low), tt))
 

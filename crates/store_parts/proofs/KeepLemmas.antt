@@ -17,6 +17,7 @@ use Rattle.store_parts.proofs.MoveLemmas.{takes_moves, gives_moves, writes_moves
 nothing : {A : Type 0} → 1 ≤ 0 → A
 nothing h = absurd (omega arith)
 
+-- spans apart from the first nodes in some pages are off the logs taken out that begin there
 pub off_firsts : (firsts : List ℕ) (ss : List Span) (logs : List Log) → AreApart ss (first_nodes firsts) → AreOutIn firsts logs → AreOffNodes ss logs
 off_firsts firsts ss [] apart outs = tt
 off_firsts firsts ss (l ∷ more) apart outs = ((λ is. one firsts l.page apart (outs.0 is)), off_firsts firsts ss more apart outs.1)
@@ -46,6 +47,7 @@ both_off : (ss ts : List Span) (us : List Span) → AreApart ss us → AreApart 
 both_off ss ts [] a b = tt
 both_off ss ts (u ∷ us) a b = (from_join ss ts u a.0 b.0, both_off ss ts us a.1 b.1)
 
+-- a move that writes no first node of a log taken out keeps the rest of a store
 pub keeps_move : (firsts own own' : List ℕ) (ss : List Span) (old new : Pages) → IsWithin firsts own → AreApart ss (first_nodes firsts) → Moves own own' ss old new → Keeps firsts own own' old new
 keeps_move firsts own own' ss old new within apart is = λ s outs outs' st.
     let none : times 0 firsts ≡ 0 = (let w = within 0 in let z = not_zero own old s st in omega (arith, w, z)) in
@@ -56,17 +58,21 @@ none_off : (ts : List Span) → AreApart [] ts
 none_off [] = tt
 none_off (t ∷ ts) = (tt, none_off ts)
 
+-- a page taken keeps the rest of a store, and becomes an own one
 pub keeps_take : (firsts own : List ℕ) (page : ℕ) (old new : Pages) → IsWithin firsts own → TakesPage page old new → Keeps firsts own (page ∷ own) old new
 keeps_take firsts own page old new within is = keeps_move firsts own (page ∷ own) [] old new within (none_off (first_nodes firsts)) (takes_moves own page old new is)
 
+-- an own page given back keeps the rest of a store, and is an own one no more
 pub keeps_give : (firsts own own' : List ℕ) (page : ℕ) (old new : Pages) → IsWithin firsts own → ((n : ℕ) → times n own ≡ times n (page ∷ []) + times n own') → GivesPage page old new → Keeps firsts own own' old new
 keeps_give firsts own own' page old new within cut is = λ s outs outs' st.
     keeps_move firsts own own' [] old new within (none_off (first_nodes firsts)) (gives_moves own own' page old new s st cut is) s outs outs' st
 
+-- bytes written in own pages, but in no first node of a log taken out, keep the rest of a store
 pub keeps_write : (firsts own : List ℕ) (ss : List Span) (old new : Pages) → IsWithin firsts own → AreApart ss (first_nodes firsts) → SameOutside ss old new → AreOn own ss → Keeps firsts own own old new
 keeps_write firsts own ss old new within apart same on = λ s outs outs' st.
     keeps_move firsts own own ss old new within apart (writes_moves own ss old new s st same on) s outs outs' st
 
+-- a step that keeps the rest of a store, behind one that does, makes a call that keeps it
 pub keeps_then : (firsts a b c : List ℕ) (old mid new : Pages) → Keeps firsts a b old mid → Keeps firsts b c mid new → Keeps firsts a c old new
 keeps_then firsts a b c old mid new first second = λ s outs outs' st. second s outs outs' (first s outs outs' st)
 
@@ -84,5 +90,6 @@ recounted own own' pages s same st = record {
   marks = λ n. let e = same n in let m = st.marks n in omega (arith, e, m);
 }
 
+-- where nothing changes, the rest of a store is kept, in whatever order the own pages are told
 pub keeps_same : (firsts own own' : List ℕ) (pages : Pages) → AreAsMany own own' → Keeps firsts own own' pages pages
 keeps_same firsts own own' pages same = λ s outs outs' st. recounted own own' pages s same st

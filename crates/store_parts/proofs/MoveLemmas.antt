@@ -17,12 +17,14 @@ use Rattle.store_parts.proofs.FrameLemmas.{moved}
 
 -- ---- marks
 
+-- the mark of a page of the store is its bit
 pub mark_at : (pages : Pages) (n : ℕ) → n < length pages → mark pages n ≡ bit pages n
 mark_at pages n there = elim (leb_tells (suc n) (length pages)) [
   | inl below ↦ ap (λ (b : Bool). cond b (bit pages n) 0) below.0
   | inr above ↦ absurd (let a = above.1 in omega (arith, a, there))
 ]
 
+-- a page keeps its mark where its bit and the count of pages stay
 pub mark_same : (old new : Pages) (n : ℕ) → length new ≡ length old → bit new n ≡ bit old n → mark new n ≡ mark old n
 mark_same old new n many same = ap₂ (λ (k b : ℕ). cond (nat_lt n k) b 0) many same
 
@@ -47,6 +49,7 @@ map_wider : (page : ℕ) (old new : Pages) → page < 32_768 → SameOutside (sp
 map_wider page old new below same = outside_wider (span 0 62 4 ∷ span 0 (place_of page) 1 ∷ []) (map_spans ++ []) old new
     (λ n k off. (off.0, (off_part 0 128 4_096 (place_of page) 1 n k (omega arith) (omega (arith, below)) off.1.0, tt))) same
 
+-- with a free page used, and no other bit changed, marks and own pages grow by the same page
 pub taken_marks : (own : List ℕ) (page : ℕ) (old new : Pages) → page < length old → length new ≡ length old → IsFree old page → IsUsed new page
     → ((k : ℕ) → k ≢ page → bit new k ≡ bit old k) → (n : ℕ) → mark new n + times n own ≡ mark old n + times n (page ∷ own)
 taken_marks own page old new there many free used others n = elim (cases_eq n page) [
@@ -59,6 +62,7 @@ taken_marks own page old new there many free used others n = elim (cases_eq n pa
   | inr other ↦ (let a = mark_same old new n many (others n other) in let c = one_other page n other in omega (arith, a, c))
 ]
 
+-- a page taken is a move that makes it an own page
 pub takes_moves : (own : List ℕ) (page : ℕ) (old new : Pages) → TakesPage page old new → Moves own (page ∷ own) [] old new
 takes_moves own page old new is =
     let outside = is.change.outside in
@@ -70,6 +74,7 @@ takes_moves own page old new is =
       marks = taken_marks own page old new is.there many is.free is.change.here is.change.others;
     }
 
+-- an own page given back is a move after which it is no own page
 pub gives_moves : (own own' : List ℕ) (page : ℕ) (old new : Pages) (s : Stored) → IsStoreBut own old s → ((n : ℕ) → times n own ≡ times n (page ∷ []) + times n own')
     → GivesPage page old new → Moves own own' [] old new
 gives_moves own own' page old new s st cut is =
@@ -96,6 +101,7 @@ gives_moves own own' page old new s st cut is =
 
 -- ---- writes
 
+-- spans that lie in other pages have no byte of page 0
 pub off_zero_page : (ns : List ℕ) (ss : List Span) (k : ℕ) → AreOn ns ss → times 0 ns ≡ 0 → IsOffAll ss 0 k
 off_zero_page ns [] k on none = tt
 off_zero_page ns (s ∷ ss) k on none = (inl (λ (e : 0 ≡ s.page). absurd (no (let c : times 0 ns ≡ times s.page ns = ap (λ n. times n ns) e in let o = on.0 in omega (arith, c, none, o)))), off_zero_page ns ss k on.1 none)
@@ -103,9 +109,11 @@ off_zero_page ns (s ∷ ss) k on none = (inl (λ (e : 0 ≡ s.page). absurd (no 
     no : 1 ≤ 0 → ⊥
     no h = absurd (omega arith)
 
+-- page 0 is the store's, and none of the own pages
 pub not_zero : (own : List ℕ) (pages : Pages) (s : Stored) → IsStoreBut own pages s → times 0 own ≡ 0
 not_zero own pages s st = let m = mark_small pages 0 in let e = st.marks 0 in let o = one_same 0 0 refl in omega (arith, m, e, o)
 
+-- bytes written in own pages are a move that leaves the own pages as they are
 pub writes_moves : (own : List ℕ) (ss : List Span) (old new : Pages) (s : Stored) → IsStoreBut own old s → SameOutside ss old new → AreOn own ss → Moves own own ss old new
 writes_moves own ss old new s st same on =
     let none = not_zero own old s st in

@@ -1,5 +1,5 @@
 -- The data that a printed tree is read as, and the tree that this data is.
-use Rattle.std.proofs.Common.{◌≡◌, ℕ, ◌^◌, ◌<◌, ◌≤◌, ℤ, pos, negsuc, Bool, true, false, ◌||◌, List, length, nat_lt, refl, sym, ap, ◌∙◌, arith, Ordering, Less, Equal, Greater, is_eq, true≢false, nat_cmp}
+use Rattle.std.proofs.Common.{◌≡◌, ℕ, ◌≤◌, ℤ, pos, negsuc, Bool, true, false, ◌||◌, List, length, nat_lt, refl, sym, ap, ◌∙◌, arith, Ordering, Less, Equal, Greater, is_eq, true≢false, nat_cmp}
 use Rattle.std.specs.Cmp.Lexicographic.{slice_cmp}
 use Rattle.std.specs.Ordering.{match_ordering}
 use Rattle.std.proofs.lemmas.Bool.Decides.{nat_tests}

@@ -12,12 +12,15 @@ drop_block xs ys n j k len is =
 pub drop_number : (w x j k : ℕ) (ys : List ℕ) → k ≡ w + j → drop k (big_bytes w x ++ ys) ≡ drop j ys
 drop_number w x j k ys is = drop_block (big_bytes w x) ys w j k (length-bytes_high_first w x) is
 
+-- a number's bytes in front of others are read as the number
 pub number_first : (w x : ℕ) (ys : List ℕ) → x < 256 ^ w → big_number w (big_bytes w x ++ ys) ≡ x
 number_first = big_number-reads_back
 
+-- so are they alone
 pub number_alone : (w x : ℕ) → x < 256 ^ w → big_number w (big_bytes w x) ≡ x
 number_alone w x small = ap (big_number w) (sym (append-nil (big_bytes w x))) ∙ big_number-reads_back w x [] small
 
+-- a byte in front of others is read as the number that it was made of
 pub byte_first : (x : ℕ) (ys : List ℕ) → x < 256 → slice_index (big_bytes 1 x ++ ys) 0 ≡ x
 byte_first x ys small =
     let e : slice_index (big_bytes 1 x ++ ys) 0 * 256 ^ 0 + 0 ≡ x = big_number-reads_back 1 x ys (omega arith) in

@@ -1,5 +1,5 @@
 -- What was read names pages of the store, and bytes within them.
-use Rattle.std.proofs.Common.{◌≡◌, ℕ, zero, suc, ◌+◌, ◌-◌, ◌<◌, ◌≤◌, ◌==◌, ◌&&◌, true, List, [], ◌∷◌, length, take, drop, slice_index, Option, Some, subst, arith, nat_lt, nat_le}
+use Rattle.std.proofs.Common.{◌≡◌, ℕ, zero, suc, ◌+◌, ◌-◌, ◌<◌, ◌≤◌, ◌==◌, ◌&&◌, List, [], ◌∷◌, length, take, drop, slice_index, Option, Some, subst, arith, nat_lt, nat_le}
 use Rattle.std.specs.Option.{option_map, option_and_then}
 use Rattle.std.proofs.lemmas.List.{length-drop, length-take-le}
 use Rattle.std.proofs.lemmas.Bool.{leb-true, ltb-true, eqb-true}
@@ -8,7 +8,7 @@ use Rattle.page_model.specs.Pages.{page_bytes}
 use Rattle.store_data.specs.Store.{Run}
 use Rattle.undo_model.specs.Data.{Row, Body, inserted, rebuilt, versioned, patched, removed}
 use Rattle.undo_model.specs.Bytes.{head_size}
-use Rattle.undo_model.specs.Reading.{runs_in, is_run, bitmap_size, new_lob_in, body_in, with_body, Standing, previous_in, record_in, row_in, most_pieces, most_runs, most_old, is_previous, RunsFit, BodyFits}
+use Rattle.undo_model.specs.Reading.{runs_in, is_run, bitmap_size, new_lob_in, body_in, with_body, Standing, previous_in, record_in, row_in, max_pieces, max_runs, max_old, is_previous, RunsFit, BodyFits}
 use Rattle.undo_model.proofs.OptionLemmas.{some_some, not_some, cond_some, and_true, map_some, then_some}
 
 runs_fit : (count n left : ℕ) (bytes : List ℕ) (runs : List Run) → runs_in count n left bytes ≡ Some runs → RunsFit count runs
@@ -44,21 +44,22 @@ body_fits count (suc zero) bytes b e = lob_fits count inserted bytes b (λ page 
 body_fits count (suc (suc zero)) bytes b e = lob_fits count rebuilt bytes b (λ page below. below) e
 body_fits count (suc (suc (suc zero))) bytes b e =
     let pieces = big_number 4 bytes in
-    let c = cond_some (nat_le 4 (length bytes) && (nat_le pieces most_pieces && (length bytes == 4 + bitmap_size pieces))) (Some (versioned pieces (drop 4 bytes))) b e in
-    let ands = and_true (nat_le pieces most_pieces) (length bytes == 4 + bitmap_size pieces) (and_true (nat_le 4 (length bytes)) (nat_le pieces most_pieces && (length bytes == 4 + bitmap_size pieces)) c.0).1 in
-    let few : pieces ≤ most_pieces = leb-true pieces most_pieces ands.0 in
+    let c = cond_some (nat_le 4 (length bytes) && (nat_le pieces max_pieces && (length bytes == 4 + bitmap_size pieces))) (Some (versioned pieces (drop 4 bytes))) b e in
+    let ands = and_true (nat_le pieces max_pieces) (length bytes == 4 + bitmap_size pieces) (and_true (nat_le 4 (length bytes)) (nat_le pieces max_pieces && (length bytes == 4 + bitmap_size pieces)) c.0).1 in
+    let few : pieces ≤ max_pieces = leb-true pieces max_pieces ands.0 in
     let len : length bytes ≡ 4 + bitmap_size pieces = eqb-true (length bytes) (4 + bitmap_size pieces) ands.1 in
     let d = length-drop 4 bytes in
     subst (BodyFits count) (some_some (versioned pieces (drop 4 bytes)) b c.1) (few, omega (arith, d, len))
 body_fits count (suc (suc (suc (suc zero)))) bytes b e =
     let n = slice_index bytes 0 in
-    let runs = runs_in count n most_old (drop 1 bytes) in
-    let c = cond_some (nat_le 1 (length bytes) && nat_le n most_runs) (option_map patched runs) b e in
+    let runs = runs_in count n max_old (drop 1 bytes) in
+    let c = cond_some (nat_le 1 (length bytes) && nat_le n max_runs) (option_map patched runs) b e in
     let m = map_some patched runs b c.1 in
-    subst (BodyFits count) m.2 (runs_fit count n most_old (drop 1 bytes) m.0 m.1)
+    subst (BodyFits count) m.2 (runs_fit count n max_old (drop 1 bytes) m.0 m.1)
 body_fits count (suc (suc (suc (suc (suc zero))))) bytes b e = let c = cond_some (length bytes == 0) (Some removed) b e in subst (BodyFits count) (some_some removed b c.1) tt
 body_fits count (suc (suc (suc (suc (suc (suc n)))))) bytes b e = absurd (not_some b e)
 
+-- a record that was read has a body that fits the store's pages
 pub record_fits : (count : ℕ) (bytes : List ℕ) (s : Standing) → record_in count bytes ≡ Some s → BodyFits count s.undo.body
 record_fits count bytes s e =
     let previous = previous_in bytes in

@@ -12,10 +12,12 @@ use Rattle.undo_model.specs.Bytes.{record_size}
 use Rattle.undo_model.specs.Logs.{node_of, end_field, nodes_in, records_in, records_of, newest, IsFilled, AreChained, IsPart, AreParts, CommitIs, LastIs, NextIs, IsLog, part_spans, body_spans, log_spans, first_start, other_start, pages_base}
 use Rattle.undo_model.proofs.PageLemmas.{record_kept}
 
+-- a page's records end no earlier than they begin
 pub filled_low : (page start end : ℕ) (records : List Entry) → IsFilled page start end records → start ≤ end
 filled_low page start end [] is = omega (arith, is)
 filled_low page start end (e ∷ older) is = let low = filled_low page start e.at.at older is.2 in let s = is.1 in omega (arith, low, s)
 
+-- a chain's older records are chained
 pub chained_rest : (pages : Pages) (records rest : List Entry) → AreChained pages (records ++ rest) → AreChained pages rest
 chained_rest pages [] rest chain = chain
 chained_rest pages (e ∷ older) rest chain = chained_rest pages older rest chain.1
@@ -45,6 +47,7 @@ part_kept xs old new start p same type_apart end_apart is =
       high = omega (arith, end, is.high);
     }
 
+-- a log's pages hold their parts where nothing changes but bytes apart from them
 pub parts_kept : (xs : List Span) (old new : Pages) (first : ℕ) (parts : List Part) → SameOutside xs old new → AreApart xs (body_spans parts) → AreParts old first parts → AreParts new first parts
 parts_kept xs old new first [] same apart is = is
 parts_kept xs old new first (p ∷ []) same apart is = (is.0, part_kept xs old new first_start p same apart.0 apart.1.0 is.1)
@@ -58,6 +61,7 @@ parts_kept xs old new first (p ∷ q ∷ older) same apart is = (
   parts_kept xs old new first (q ∷ older) same apart.1.1 is.1,
 )
 
+-- a log's records stay chained where nothing changes but bytes apart from them
 pub chains_kept : (xs : List Span) (old new : Pages) (first : ℕ) (parts : List Part) → SameOutside xs old new → AreApart xs (body_spans parts) → AreParts old first parts
     → AreChained old (records_in parts) → AreChained new (records_in parts)
 chains_kept xs old new first [] same apart is chain = tt
@@ -77,6 +81,7 @@ bodies_apart xs (p ∷ q ∷ older) apart = (apart_part xs p.page 0 page_bytes 2
 
 -- ---- the list of the log's pages
 
+-- spans apart from two lists are apart from both in a row
 pub apart_join : (xs ss ts : List Span) → AreApart xs ss → AreApart xs ts → AreApart xs (ss ++ ts)
 apart_join xs [] ts a b = b
 apart_join xs (s ∷ ss) ts a b = (a.0, apart_join xs ss ts a.1 b)
@@ -99,6 +104,7 @@ first_apart xs pages first [] is apart = absurd is
 first_apart xs pages first (p ∷ []) is apart = let P : ℕ → Type 0 = λ n. FirstApart xs n in subst P is.0 (record { front = apart.0; back = apart.1.0 })
 first_apart xs pages first (p ∷ q ∷ older) is apart = first_apart xs pages first (q ∷ older) is.1 apart.1
 
+-- the commit number is told by equal ones
 pub commit_is : (state : LogState) (a b n : ℕ) → a ≡ b → CommitIs state b n → CommitIs state a n
 commit_is active a b n same is = is
 commit_is committed a b n same is = same ∙ is
@@ -109,11 +115,13 @@ last_is active a b records same is = same ∙ is
 last_is committed a b records same is = same ∙ is
 last_is purging a b records same is = tt
 
+-- the next record to purge is told by equal addresses
 pub next_is : (state : LogState) (a b : Address) (next : Option Address) → a ≡ b → NextIs state b next → NextIs state a next
 next_is active a b next same is = is
 next_is committed a b next same is = same ∙ is
 next_is purging a b next same is = same ∙ is
 
+-- a log stays, with all its records, where nothing changes but bytes apart from its spans
 pub log_kept : (xs : List Span) (old new : Pages) (log : Log) → SameOutside xs old new → AreApart xs (log_spans log) → IsLog old log → IsLog new log
 log_kept xs old new log same apart is =
     let first = first_apart xs old log.page log.parts is.parts apart in

@@ -22,6 +22,7 @@ all_kept xs old new [] same apart are = tt
 all_kept xs old new (log ∷ more) same apart are =
     let parts = apart_split xs (log_spans log) (all_spans more) apart.1 in (log_kept xs old new log same parts.0 are.0, all_kept xs old new more same parts.1 are.1)
 
+-- the logs of a store stay where nothing changes but bytes apart from them all
 pub logs_kept : (xs : List Span) (old new : Pages) (logs : Logs) → SameOutside xs old new → AreApart xs (logs_spans logs) → IsLogs old logs → IsLogs new logs
 logs_kept xs old new logs same apart is =
     let both = apart_split xs (all_spans logs.active) (all_spans logs.committed) apart.1.1 in record {

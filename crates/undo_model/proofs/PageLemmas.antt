@@ -12,6 +12,7 @@ use Rattle.undo_model.proofs.BlockLemmas.{number_first}
 use Rattle.undo_model.proofs.OptionLemmas.{some_some}
 use Rattle.undo_model.proofs.ReadBackLemmas.{record_back}
 
+-- a record stays at its address where nothing changes but bytes apart from it
 pub record_kept : (xs : List Span) (old new : Pages) (a : Address) (r : Record) (previous : Address) → SameOutside xs old new
     → IsApartFromAll xs (span a.page a.at (record_size r)) → IsRecordAt old a r previous → IsRecordAt new a r previous
 record_kept xs old new a r previous same apart is =
@@ -46,6 +47,7 @@ bytes_written pages page at n bytes fits len =
     ∙ ap (λ (m : ℕ). take m (bytes ++ drop (at + length bytes) p)) (sym len)
     ∙ take-append_seam bytes (drop (at + length bytes) p)
 
+-- the bytes of a sound record, written at an address where they fit, write it there
 pub record_set : (pages : Pages) (a : Address) (r : Record) (previous : Address) → Fits pages a.page a.at (record_size r) → a.at + record_size r ≤ record_end
     → IsSoundRecord (length pages) r → IsSoundPrevious (length pages) previous
     → WritesRecord a r previous pages (written pages a.page a.at (record_bytes r previous))

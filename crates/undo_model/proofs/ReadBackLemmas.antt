@@ -9,7 +9,7 @@ use Rattle.page_model.specs.Pages.{Address, address_bytes}
 use Rattle.store_data.specs.Store.{RowState, absent, live, deleted, Run}
 use Rattle.undo_model.specs.Data.{Reference, Row, Body, inserted, rebuilt, versioned, patched, removed, Record}
 use Rattle.undo_model.specs.Bytes.{state_code, reference_bytes, row_bytes, runs_bytes, kind_code, body_bytes, record_bytes}
-use Rattle.undo_model.specs.Reading.{state_of, reference_in, row_with, row_in, runs_in, is_run, bitmap_size, new_lob_in, versioned_in, patched_in, body_in, record_in, most_pieces, most_runs, most_old, IsSoundRow, AreSoundRuns, IsSoundBody, IsSoundRecord, IsSoundPrevious, is_previous, is_pointer, is_reference}
+use Rattle.undo_model.specs.Reading.{state_of, reference_in, row_with, row_in, runs_in, is_run, bitmap_size, new_lob_in, versioned_in, patched_in, body_in, record_in, max_pieces, max_runs, max_old, IsSoundRow, AreSoundRuns, IsSoundBody, IsSoundRecord, IsSoundPrevious, is_previous, is_pointer, is_reference}
 use Rattle.undo_model.proofs.BlockLemmas.{number_first, number_alone, byte_first}
 
 -- ---- the row
@@ -65,15 +65,15 @@ lob_back count page body below small =
     ap (λ (m : ℕ). cond ((length (big_bytes 4 page) == 4) && (let b : Bool = nat_lt m count in b)) (Some (body m)) None) n
     ∙ known_true _ (Some (body page)) None (lt-ltb page count below)
 
-versioned_back : (pieces : ℕ) (bits : List ℕ) → pieces ≤ most_pieces → length bits ≡ bitmap_size pieces
+versioned_back : (pieces : ℕ) (bits : List ℕ) → pieces ≤ max_pieces → length bits ≡ bitmap_size pieces
     → versioned_in (big_bytes 4 pieces ++ bits) ≡ Some (versioned pieces bits)
 versioned_back pieces bits few len =
     let bytes = big_bytes 4 pieces ++ bits in
     let n : big_number 4 bytes ≡ pieces = number_first 4 pieces bits (omega arith) in
     let size : length bytes ≡ 4 + length bits = length-append (big_bytes 4 pieces) bits in
-    ap (λ (m : ℕ). cond (nat_le 4 (length bytes) && (nat_le m most_pieces && (length bytes == 4 + bitmap_size m))) (Some (versioned m (drop 4 bytes))) None) n
+    ap (λ (m : ℕ). cond (nat_le 4 (length bytes) && (nat_le m max_pieces && (length bytes == 4 + bitmap_size m))) (Some (versioned m (drop 4 bytes))) None) n
     ∙ known_true _ (Some (versioned pieces bits)) None
-    (both_true _ _ (le-leb 4 (length bytes) (omega (arith, size))) (both_true _ _ (le-leb pieces most_pieces few) (eq-eqb (length bytes) (4 + bitmap_size pieces) (size ∙ ap (λ (m : ℕ). 4 + m) len))))
+    (both_true _ _ (le-leb 4 (length bytes) (omega (arith, size))) (both_true _ _ (le-leb pieces max_pieces few) (eq-eqb (length bytes) (4 + bitmap_size pieces) (size ∙ ap (λ (m : ℕ). 4 + m) len))))
 
 runs_known : (count left n page at size : ℕ) (bytes rest : List ℕ) (r : Run) (more : List Run)
     → big_number 4 bytes ≡ r.page → big_number 2 (drop 4 bytes) ≡ r.at → slice_index bytes 6 ≡ length r.bytes → take (length r.bytes) (drop 7 bytes) ≡ r.bytes → drop (7 + length r.bytes) bytes ≡ rest
@@ -99,12 +99,12 @@ runs_back count left (r ∷ more) small sound =
     (let l : length t ≡ n + length rest = length-append r.bytes rest in omega (arith, l))
     sound.2 sound.3 ih
 
-patched_back : (count : ℕ) (runs : List Run) → length runs ≤ most_runs → AreSoundRuns count most_old runs
+patched_back : (count : ℕ) (runs : List Run) → length runs ≤ max_runs → AreSoundRuns count max_old runs
     → patched_in count (big_bytes 1 (length runs) ++ runs_bytes runs) ≡ Some (patched runs)
 patched_back count runs few sound =
     let bytes = big_bytes 1 (length runs) ++ runs_bytes runs in
     let n : slice_index bytes 0 ≡ length runs = byte_first (length runs) (runs_bytes runs) (omega arith) in
-    rw (n, runs_back count most_old runs (omega arith) sound, le-leb 1 (length bytes) (let l : length bytes ≡ 1 + length (runs_bytes runs) = length-append (big_bytes 1 (length runs)) (runs_bytes runs) in omega (arith, l)), le-leb _ _ few) refl
+    rw (n, runs_back count max_old runs (omega arith) sound, le-leb 1 (length bytes) (let l : length bytes ≡ 1 + length (runs_bytes runs) = length-append (big_bytes 1 (length runs)) (runs_bytes runs) in omega (arith, l)), le-leb _ _ few) refl
 
 body_back : (count : ℕ) (b : Body) → IsSoundBody count b → body_in count (kind_code b) (body_bytes b) ≡ Some b
 body_back count (inserted page) sound = lob_back count page inserted sound.0 sound.1
@@ -128,6 +128,7 @@ record_known : (count : ℕ) (bytes : List ℕ) (r : Record) (previous : Address
     → record_in count bytes ≡ Some (record { undo = r; previous = previous })
 record_known count bytes r previous p q allowed row body n d = rw (p, q, allowed, row, body, n, d) refl
 
+-- the bytes of a sound record are read as the record and the address of the previous one
 pub record_back : (count : ℕ) (r : Record) (previous : Address) → IsSoundRecord count r → IsSoundPrevious count previous
     → record_in count (record_bytes r previous) ≡ Some (record { undo = r; previous = previous })
 record_back count r previous sound sound' =

@@ -53,6 +53,7 @@ nodes_apart : (xs : List Span) (rows : List RowPage) → AreApart xs (page_spans
 nodes_apart xs [] apart = tt
 nodes_apart xs (p ∷ more) apart = (apart_part xs p.page 0 page_bytes 38 12 (lit≤ tt) (lit≤ tt) apart.0, nodes_apart xs more apart.1)
 
+-- the rows of a list of row pages stay where nothing changes but bytes apart from them
 pub rows_kept : (xs : List Span) (old new : Pages) (base : Address) (rows : List RowPage) → SameOutside xs old new → AreApart xs (rows_spans base rows) → IsRows old base rows → IsRows new base rows
 rows_kept xs old new base rows same apart is = record {
   list = list_kept xs old new base (row_nodes rows) same (apart.0, nodes_apart xs rows apart.1) is.list;

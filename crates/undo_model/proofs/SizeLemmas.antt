@@ -1,5 +1,5 @@
 -- What is read from bytes has as many bytes of its own, and few of them.
-use Rattle.std.proofs.Common.{◌≡◌, ℕ, zero, suc, ◌+◌, ◌-◌, ◌*◌, ◌≤◌, true, List, [], ◌∷◌, length, take, drop, slice_index, Option, Some, refl, sym, ap, ◌∙◌, arith}
+use Rattle.std.proofs.Common.{◌≡◌, ℕ, zero, suc, ◌+◌, ◌-◌, ◌*◌, ◌≤◌, List, [], ◌∷◌, length, take, drop, slice_index, Option, Some, refl, sym, ap, ◌∙◌, arith}
 use Rattle.std.specs.Option.{option_map, option_and_then}
 use Rattle.std.proofs.lemmas.List.{length-append, length-drop, length-take-le}
 use Rattle.std.proofs.lemmas.Bool.{leb-true, eqb-true}
@@ -7,7 +7,7 @@ use Rattle.byteorder.specs.Endian.{big_number, big_bytes}
 use Rattle.store_data.specs.Store.{Run}
 use Rattle.undo_model.specs.Data.{Row, Body, inserted, rebuilt, versioned, patched, removed}
 use Rattle.undo_model.specs.Bytes.{runs_bytes, body_bytes, record_size, head_size}
-use Rattle.undo_model.specs.Reading.{runs_in, bitmap_size, new_lob_in, versioned_in, patched_in, body_in, with_body, Standing, previous_in, record_in, row_in, most_pieces, most_runs, most_old, is_previous, AreSoundRuns, IsSoundBody}
+use Rattle.undo_model.specs.Reading.{runs_in, bitmap_size, new_lob_in, versioned_in, patched_in, body_in, with_body, Standing, previous_in, record_in, row_in, max_pieces, max_runs, max_old, is_previous, AreSoundRuns, IsSoundBody}
 use Rattle.undo_model.proofs.OptionLemmas.{some_some, not_some, cond_some, and_true, map_some, then_some}
 
 -- a body has as many bytes as it was read from, and at most 801
@@ -27,7 +27,7 @@ versioned_size bytes b e =
     let c = cond_some _ _ _ e in
     let pieces = big_number 4 bytes in
     let ands = and_true _ _ (and_true _ _ c.0).1 in
-    let many : pieces ≤ 1_032 = leb-true pieces most_pieces ands.0 in
+    let many : pieces ≤ 1_032 = leb-true pieces max_pieces ands.0 in
     let len : length bytes ≡ 4 + bitmap_size pieces = eqb-true (length bytes) (4 + bitmap_size pieces) ands.1 in
     let four : 4 ≤ length bytes = omega (arith, len) in
     record {
@@ -36,6 +36,7 @@ versioned_size bytes b e =
       few = omega (arith, len, many);
     }
 
+-- runs are as long as 7 bytes, the first run's old bytes and the other runs together
 pub run_size : (r : Run) (more : List Run) → length (runs_bytes (r ∷ more)) ≡ 7 + length r.bytes + length (runs_bytes more)
 run_size r more = let l = length-append r.bytes (runs_bytes more) in omega (arith, l)
 
@@ -78,9 +79,9 @@ patched_size count bytes b e =
     let c = cond_some _ _ _ e in
     let ands = and_true _ _ c.0 in
     let one : 1 ≤ length bytes = leb-true 1 (length bytes) ands.0 in
-    let many : n ≤ 100 = leb-true n most_runs ands.1 in
-    let m = map_some patched (runs_in count n most_old (drop 1 bytes)) b c.1 in
-    let rs = runs_size count n most_old (drop 1 bytes) m.0 m.1 in
+    let many : n ≤ 100 = leb-true n max_runs ands.1 in
+    let m = map_some patched (runs_in count n max_old (drop 1 bytes)) b c.1 in
+    let rs = runs_size count n max_old (drop 1 bytes) m.0 m.1 in
     let d = length-drop 1 bytes in
     let whole : length (body_bytes (patched m.0)) ≡ 1 + length (runs_bytes m.0) = length-append (big_bytes 1 (length m.0)) (runs_bytes m.0) in
     let s = rs.same in
@@ -128,6 +129,7 @@ sound_runs count left (r ∷ more) sound =
     let l = sound.2 in
     omega (arith, ih, s, l)
 
+-- a sound body has at most 801 bytes
 pub sound_size : (count : ℕ) (b : Body) → IsSoundBody count b → length (body_bytes b) ≤ 801
 sound_size count (inserted page) sound = omega arith
 sound_size count (rebuilt page) sound = omega arith
@@ -137,6 +139,6 @@ sound_size count (versioned pieces bits) sound =
     let l = length-append (big_bytes 4 pieces) bits in omega (arith, few, len, l)
 sound_size count (patched runs) sound =
     let few = sound.0 in
-    let short = sound_runs count most_old runs sound.1 in
+    let short = sound_runs count max_old runs sound.1 in
     let l = length-append (big_bytes 1 (length runs)) (runs_bytes runs) in omega (arith, few, short, l)
 sound_size count removed sound = omega arith

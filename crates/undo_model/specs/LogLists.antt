@@ -2,7 +2,7 @@
 -- commit number; the first of them may be one whose purge has begun.
 --     IsLogs pages logs, logs_spans      these logs and no others stand there; the bytes that this
 --         rests on
-use Rattle.std.specs.Prelude.{◌≡◌, ◌≢◌, ℕ, suc, ◌+◌, List, [], ◌∷◌, ◌++◌, Option, Some}
+use Rattle.std.specs.Prelude.{◌≡◌, ◌≢◌, ℕ, suc, List, [], ◌∷◌, ◌++◌, Option, Some}
 use Rattle.page_model.specs.Pages.{Pages, Address}
 use Rattle.page_model.specs.Spans.{Span}
 use Rattle.page_model.specs.Lists.{IsList, base_span, node_span}

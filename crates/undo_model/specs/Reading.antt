@@ -15,18 +15,18 @@ use Rattle.undo_model.specs.Bytes.{record_size, head_size}
 abbrev pub record_end : ℕ
 record_end = 16_376
 
-abbrev pub most_length : ℕ
-most_length = 16_777_216
+abbrev pub max_length : ℕ
+max_length = 16_777_216
 
-abbrev pub most_pieces : ℕ
-most_pieces = 1_032
+abbrev pub max_pieces : ℕ
+max_pieces = 1_032
 
-abbrev pub most_runs : ℕ
-most_runs = 100
+abbrev pub max_runs : ℕ
+max_runs = 100
 
 -- of old bytes in one record
-abbrev pub most_old : ℕ
-most_old = 100
+abbrev pub max_old : ℕ
+max_old = 100
 
 -- ---- addresses and pointers that are allowed
 
@@ -62,7 +62,7 @@ reference_in bytes = record {
 }
 
 abbrev pub is_reference : ℕ → Reference → Bool
-is_reference count r = nat_lt r.page count && nat_le r.length most_length
+is_reference count r = nat_lt r.page count && nat_le r.length max_length
 
 abbrev pub row_with : ℕ → ℕ → ℕ → Reference → RowState → Option Row
 row_with count trx roll lob state =
@@ -105,13 +105,13 @@ abbrev pub versioned_in : List ℕ → Option Body
 versioned_in bytes =
     let pieces = big_number 4 bytes in
     cond (nat_le 4 (length bytes) &&
-    (nat_le pieces most_pieces && (length bytes == 4 + bitmap_size pieces)))
+    (nat_le pieces max_pieces && (length bytes == 4 + bitmap_size pieces)))
     (Some (versioned pieces (drop 4 bytes))) None
 
 abbrev pub patched_in : ℕ → List ℕ → Option Body
 patched_in count bytes =
-    cond (nat_le 1 (length bytes) && nat_le (slice_index bytes 0) most_runs)
-    (option_map patched (runs_in count (slice_index bytes 0) most_old (drop 1 bytes))) None
+    cond (nat_le 1 (length bytes) && nat_le (slice_index bytes 0) max_runs)
+    (option_map patched (runs_in count (slice_index bytes 0) max_old (drop 1 bytes))) None
 
 abbrev pub body_in : ℕ → ℕ → List ℕ → Option Body
 body_in count zero bytes = None
@@ -202,8 +202,8 @@ abbrev pub IsSoundBody : ℕ → Body → Type 0
 IsSoundBody count (inserted page) = (page < count) × (page < 256 ^ 4)
 IsSoundBody count (rebuilt page) = (page < count) × (page < 256 ^ 4)
 IsSoundBody count (versioned pieces bits) =
-    (pieces ≤ most_pieces) × (length bits ≡ bitmap_size pieces)
-IsSoundBody count (patched runs) = (length runs ≤ most_runs) × AreSoundRuns count most_old runs
+    (pieces ≤ max_pieces) × (length bits ≡ bitmap_size pieces)
+IsSoundBody count (patched runs) = (length runs ≤ max_runs) × AreSoundRuns count max_old runs
 IsSoundBody count removed = Unit {0}
 
 pub record IsSoundRecord (count : ℕ) (r : Record) : Type 0 where
@@ -227,6 +227,6 @@ RunsFit count (r ∷ more) =
 abbrev pub BodyFits : ℕ → Body → Type 0
 BodyFits count (inserted page) = page < count
 BodyFits count (rebuilt page) = page < count
-BodyFits count (versioned pieces bits) = (pieces ≤ most_pieces) × (length bits ≡ bitmap_size pieces)
+BodyFits count (versioned pieces bits) = (pieces ≤ max_pieces) × (length bits ≡ bitmap_size pieces)
 BodyFits count (patched runs) = RunsFit count runs
 BodyFits count removed = Unit {0}

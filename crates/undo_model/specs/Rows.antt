@@ -15,8 +15,8 @@ use Rattle.undo_model.specs.Logs.{node_of}
 abbrev pub row_type : ℕ
 row_type = 2
 
-abbrev pub most_slots : ℕ
-most_slots = 408
+abbrev pub max_slots : ℕ
+max_slots = 408
 
 abbrev pub first_slot : ℕ
 first_slot = 52
@@ -72,7 +72,7 @@ pub record IsRowPage (pages : Pages) (p : RowPage) : Type 0 where
   pub there : p.page < length pages
   pub type : field pages p.page 24 2 ≡ row_type
   pub count : field pages p.page 50 2 ≡ length (somes p.slots)
-  pub many : length p.slots ≡ most_slots
+  pub many : length p.slots ≡ max_slots
   pub slots : AreSlots pages p.page first_slot p.slots
   pub some : 1 ≤ length (somes p.slots)
 

@@ -54,7 +54,8 @@ pub fn row_purged()
     ensures active { is_purged (log_three ∷ []) (Some (place 6 56)) 7 ≡ false }
     ensures due { is_purged (purged_one (marked_committed 9 log_three) ∷ [])
         (Some (place 4 158)) 7 ≡ false }
-    ensures all { is_purged (purged_one (purged_one (purged_one (marked_committed 9 log_three))) ∷ [])
+    ensures all { is_purged (purged_one (purged_one (purged_one (marked_committed 9 log_three)))
+        ∷ [])
         (Some (place 6 56)) 7 ≡ true }
     ensures past { is_purged (purged_one (marked_committed 9 log_three) ∷ [])
         (Some (place 4 107)) 7 ≡ true }

@@ -19,6 +19,7 @@ run_next xs i r below is =
     ∙ ap (λ (x : Run). run_bytes (run_of x) ++ runs_bytes (map run_of (drop (suc i) xs))) (sym is)
     ∙ ap (λ (k : ℕ). run_bytes (run_of r) ++ runs_bytes (map run_of (drop k xs))) (sym (add-one i))
 
+-- a run has at most as many old bytes as all runs together
 pub old_within : (xs : List Run) (i : ℕ) (r : Run) → i < length xs → r ≡ get_or xs i r → length (run_of r).bytes ≤ old_size (map run_of xs)
 old_within [] i r below is = absurd (let f : i < 0 = below in omega arith)
 old_within (x ∷ xs) zero r below is = let e : length (run_of r).bytes ≡ length (run_of x).bytes = ap (λ (y : Run). length (run_of y).bytes) is in omega (arith, e)
@@ -32,6 +33,7 @@ run_put xs i r whole out new below is inv put =
     let one = run_bytes (run_of r) in
     ap (λ (n : List ℕ). n ++ rest) (put ∙ ap (λ (b : List ℕ). out ++ b) (append-nil one)) ∙ append_assoc out one rest ∙ ap (λ (b : List ℕ). out ++ b) (sym (run_next xs i r below is)) ∙ inv
 
+-- where start and all runs are within 852 bytes, so is what is written with run i behind it
 pub run_room : (xs : List Run) (i : ℕ) (r : Run) (start out : List ℕ) → i < length xs → r ≡ get_or xs i r
     → out ++ runs_bytes (map run_of (drop i xs)) ≡ start ++ runs_bytes (map run_of xs) → length start + length (runs_bytes (map run_of xs)) ≤ 852
     → length out + 7 + length (run_of r).bytes ≤ 852
@@ -44,6 +46,7 @@ run_room xs i r start out below is inv room =
 
 -- ---- blocks of a row
 
+-- the fields of a reference, put one behind another, are the reference's bytes
 pub reference_put : (o o1 o2 o3 o4 o5 : List ℕ) (r : Reference) → o1 ≡ o ++ big_bytes 4 r.space → o2 ≡ o1 ++ big_bytes 4 r.page → o3 ≡ o2 ++ big_bytes 4 r.version
     → o4 ≡ o3 ++ big_bytes 4 0 → o5 ≡ o4 ++ big_bytes 4 r.length → o5 ≡ o ++ reference_bytes r
 reference_put o o1 o2 o3 o4 o5 r a b c d e =
@@ -53,6 +56,7 @@ reference_put o o1 o2 o3 o4 o5 r a b c d e =
     let p = big_bytes 4 r.page ++ v in
     then o o1 o5 (big_bytes 4 r.space) p a (then o1 o2 o5 (big_bytes 4 r.page) v b (then o2 o3 o5 (big_bytes 4 r.version) z c (then o3 o4 o5 (big_bytes 4 0) l d e)))
 
+-- the fields of a row and its reference, put one behind another, are the row's bytes
 pub row_put : (o o1 o2 o3 o4 : List ℕ) (r : Row) → o1 ≡ o ++ big_bytes 1 (state_code r.state) → o2 ≡ o1 ++ big_bytes 6 r.trx → o3 ≡ o2 ++ big_bytes 7 r.roll → o4 ≡ o3 ++ reference_bytes r.lob
     → o4 ≡ o ++ row_bytes r
 row_put o o1 o2 o3 o4 r a b c d =

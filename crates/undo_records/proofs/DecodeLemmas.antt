@@ -18,6 +18,7 @@ row_is count bytes s t p l es et ep el =
     ∙ ap₂ (λ (a b : ℕ). row_with count a b (reference_in (drop 14 bytes)) s) (sym et) (sym ep)
     ∙ ap (λ (m : Reference). row_with count t p m s) (sym el)
 
+-- fields that were read are the row's, where its pointer and its reference may be
 pub row_some : (count : ℕ) (bytes : List ℕ) (s : RowState) (t p : ℕ) (l : Reference) → state_of (slice_index bytes 0) ≡ Some s → t ≡ big_number 6 (drop 1 bytes) → p ≡ big_number 7 (drop 7 bytes) → l ≡ reference_in (drop 14 bytes)
     → is_pointer count p ≡ true → is_reference count l ≡ true → Some (record { state = s; trx = t; roll = p; lob = l }) ≡ row_in count bytes
 row_some count bytes s t p l es et ep el a b =
@@ -28,6 +29,7 @@ pub row_no_pointer : (count : ℕ) (bytes : List ℕ) (s : RowState) (t p : ℕ)
 row_no_pointer count bytes s t p l es et ep el a =
     sym (row_is count bytes s t p l es et ep el ∙ ap (λ (x : Bool). cond (x && is_reference count l) (Some (let r : Row = record { state = s; trx = t; roll = p; lob = l } in r)) None) a)
 
+-- where the reference is none that may be, no row is read
 pub row_no_reference : (count : ℕ) (bytes : List ℕ) (s : RowState) (t p : ℕ) (l : Reference) → state_of (slice_index bytes 0) ≡ Some s → t ≡ big_number 6 (drop 1 bytes) → p ≡ big_number 7 (drop 7 bytes) → l ≡ reference_in (drop 14 bytes)
     → is_pointer count p ≡ true → is_reference count l ≡ false → None ≡ row_in count bytes
 row_no_reference count bytes s t p l es et ep el a b =
@@ -61,12 +63,14 @@ no_run count m k left bytes is not = ap (λ (i : ℕ). runs_in count i left byte
 ended : (runs : List Run) (o w : Option (List Run)) → option_map (λ (more : List Run). runs ++ more) o ≡ w → o ≡ None → None ≡ w
 ended runs o w inv none = ap (option_map (λ (more : List Run). runs ++ more)) (sym none) ∙ inv
 
+-- where the bytes end before the next run does, no runs are read
 pub ends_short : (count m left : ℕ) (bytes : List ℕ) (runs : List Run) (w : Option (List Run)) → 0 < m → option_map (λ (more : List Run). runs ++ more) (runs_in count m left bytes) ≡ w
     → length bytes < 7 + slice_index bytes 6 → None ≡ w
 ends_short count zero left bytes runs w more inv short = absurd (let f : 0 < 0 = more in omega arith)
 ends_short count (suc k) left bytes runs w more inv short =
     ended runs (runs_in count (suc k) left bytes) w inv (no_run count (suc k) k left bytes refl (known_false _ _ (lt-leb (7 + slice_index bytes 6) (length bytes) short)))
 
+-- where the next run has more old bytes than are left to runs, no runs are read
 pub ends_full : (count m left : ℕ) (bytes : List ℕ) (runs : List Run) (w : Option (List Run)) → 0 < m → option_map (λ (more : List Run). runs ++ more) (runs_in count m left bytes) ≡ w
     → left < slice_index bytes 6 → None ≡ w
 ends_full count zero left bytes runs w more inv full = absurd (let f : 0 < 0 = more in omega arith)
@@ -137,11 +141,13 @@ record_no_body count bytes p q n d row ep eq eb en ed er ey = sym (record_is cou
 
 -- ---- a run more, by the values that the code has at hand
 
+-- where the next run is none in the store's pages, no runs are read
 pub wrong_run : (count m left page at size : ℕ) (bytes : List ℕ) (runs : List Run) (w : Option (List Run)) → 0 < m → option_map (λ (more : List Run). runs ++ more) (runs_in count m left bytes) ≡ w
     → page ≡ big_number 4 bytes → at ≡ big_number 2 (drop 4 bytes) → size ≡ slice_index bytes 6 → is_run count page at size ≡ false → None ≡ w
 wrong_run count m left page at size bytes runs w more inv ep ea es wrong =
     ends_wrong count m left page at bytes runs w more inv ep ea (ap (is_run count page at) (sym es) ∙ wrong)
 
+-- with the next run put behind those read so far, the rest is read to the same end
 pub one_more : (count m k left page at size : ℕ) (bytes next window : List ℕ) (runs new : List Run) (w : Option (List Run)) → m ≡ suc k → option_map (λ (more : List Run). runs ++ more) (runs_in count m left bytes) ≡ w
     → page ≡ big_number 4 bytes → at ≡ big_number 2 (drop 4 bytes) → size ≡ slice_index bytes 6 → window ≡ drop 7 bytes → next ≡ drop (7 + size) bytes
     → 7 + size ≤ length bytes → size ≤ left → is_run count page at size ≡ true
@@ -154,6 +160,7 @@ one_more count m k left page at size bytes next window runs new w is inv ep ea e
     ∙ goes_on count m k left page at bytes runs new w is inv ep ea (omega (arith, es, fits)) (omega (arith, es, room)) (ap (is_run count page at) (sym es) ∙ right)
     (put ∙ ap (λ (o : List ℕ). runs ++ R o ∷ []) (ap₂ take es ew))
 
+-- and the old bytes of the runs, with those that are left to others, are 100 still
 pub one_more_size : (page at size left : ℕ) (bytes window : List ℕ) (runs new : List Run) → window ≡ drop 7 bytes → 7 + size ≤ length bytes → size ≤ left → old_size runs + left ≡ 100
     → new ≡ runs ++ (let r : Run = record { page = page; at = at; bytes = take size window } in r) ∷ [] → old_size new + (left - size) ≡ 100
 one_more_size page at size left bytes window runs new ew fits room sum put =
@@ -163,5 +170,6 @@ one_more_size page at size left bytes window runs new ew fits room sum put =
     let s : old_size new ≡ old_size runs + (length (take size window) + 0) = ap old_size put ∙ old_size_append runs (r ∷ []) in
     omega (arith, t, s, room, sum)
 
+-- and the runs are one more than they were
 pub one_more_run : (r : Run) (runs new : List Run) (i : ℕ) → new ≡ runs ++ r ∷ [] → length runs ≡ i → length new ≡ i + 1
 one_more_run r runs new i put many = ap length put ∙ length-append runs (r ∷ []) ∙ omega (arith, many)

@@ -19,6 +19,7 @@ use Rattle.undo_model.proofs.PageLemmas.{record_set}
 use Rattle.undo_model.proofs.FitLemmas.{record_fits}
 use Rattle.undo_records.specs.Reading.{record_front}
 
+-- a record read from as many bytes as their first two tell is the one that they begin with
 pub front_is : (count size : ℕ) (bytes : List ℕ) (o : Option Standing) → size ≡ big_number 2 bytes → 51 ≤ size → size ≤ length bytes → o ≡ record_in count (take size bytes) → o ≡ record_front count bytes
 front_is count size bytes o is low high e =
     let F : Bool → Bool → ℕ → Option Standing = λ a b n. cond (a && b) (record_in count (take n bytes)) None in
@@ -27,6 +28,7 @@ front_is count size bytes o is low high e =
 fits_in : (pages : Pages) (count page at size : ℕ) → AreWhole pages count → page < count → at + size ≤ page_bytes → Fits pages page at size
 fits_in pages count page at size whole below within = record { there = omega (arith, whole.many); within = omega (arith, whole.each page below) }
 
+-- a sound record's bytes written at an address write the record, where pages are told
 pub record_told : (old new : Option Pages) (count : ℕ) (a : Address) (r : Record) (previous : Address) (bytes : List ℕ) → ((pages : Pages) → old ≡ Some pages → AreWhole pages count)
     → a.page < count → a.at + record_size r ≤ record_end → IsSoundRecord count r → IsSoundPrevious count previous
     → bytes ≡ record_bytes r previous → new ≡ option_map (λ pages. written pages a.page a.at bytes) old → Told (WritesRecord a r previous) old new
@@ -104,6 +106,7 @@ reads_record None count a len n bytes s whole below least place same is e = tt
 reads_record (Some pages) count a len n bytes s whole below least place same is e =
     (s.previous, read_there pages count a len bytes s (whole pages refl) below (omega (arith, least, place)) (omega (arith, least, place)) (is ∙ ap (bytes_at pages a.page a.at) same) e)
 
+-- where the bytes read at an address begin with no record, none stands there
 pub reads_none : (told : Option Pages) (count : ℕ) (at : Addr) (len n : ℕ) (bytes : List ℕ) → ((pages : Pages) → told ≡ Some pages → AreWhole pages count) → at.page.0 < count
     → len ≡ min (record_end - at.at) 852 → at.at + 51 ≤ record_end → n ≡ len → IfSome told (λ pages. bytes ≡ bytes_at pages at.page.0 at.at n) → None ≡ record_front count bytes
     → IfSome told (λ pages. (at ≡ at) × IsBad pages (address_of at))
@@ -111,6 +114,7 @@ reads_none None count at len n bytes whole below least place same is e = tt
 reads_none (Some pages) count at len n bytes whole below least place same is e =
     (refl, no_record pages count (address_of at) len bytes (whole pages refl) below least place (is ∙ ap (bytes_at pages at.page.0 at.at) same) e)
 
+-- the body of a record that bytes begin with fits the store's pages
 pub front_fits : (count n : ℕ) (bytes : List ℕ) (s : Standing) → n ≡ count → Some s ≡ record_front n bytes → BodyFits count s.undo.body
 front_fits count n bytes s is e =
     let e' : record_front count bytes ≡ Some s = sym (e ∙ ap (λ (m : ℕ). record_front m bytes) is) in

@@ -7,6 +7,7 @@ use Rattle.undo_model.proofs.OldLemmas.{old_size_append}
 use Rattle.undo_records.specs.Views.{run_of}
 use Rattle.undo_records.specs.declared.runs.Run.{Run}
 
+-- with a run more there are at most 100 runs and 100 old bytes, where there was room for it
 pub pushed : (xs new : List Run) (r : Run) (olds : List OldRun) (n : ℕ) → new ≡ xs ++ r ∷ [] → olds ≡ map run_of xs → length (run_of r).bytes ≡ n
     → length olds < 100 → old_size olds + n ≤ 100 → (length new ≤ 100) × (old_size (map run_of new) ≤ 100)
 pushed xs new r olds n is view len few small =

@@ -15,6 +15,7 @@ runs_length (r ∷ more) = let ih = runs_length more in let s = run_size r more 
 pub patched_bytes : (runs : List OldRun) → length (body_bytes (patched runs)) ≡ 1 + 7 * length runs + old_size runs
 patched_bytes runs = let r = runs_length runs in omega (arith, r)
 
+-- the old bytes of the runs from the i-th on are its own and those of the runs behind it
 pub next_old : (runs : List Run) (i : ℕ) (r : Run) → i < length runs → r ≡ get_or runs i r → old_size (map run_of (drop i runs)) ≡ length (run_of r).bytes + old_size (map run_of (drop (i + 1) runs))
 next_old runs i r below is =
     ap (λ (ys : List Run). old_size (map run_of ys)) (drop-cons runs i r below)

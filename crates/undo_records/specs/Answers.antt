@@ -36,6 +36,7 @@ ReadsBack r (Err (Bad there)) = ⊥
 ReadsBack r (Err (Failed fault)) = fault ≡ Device
 
 -- the count never falls, and `Device` is told only where it rose
-pub record HasRecordCause {T : Type 0} (before now : ℕ) (result : Result T RecordError) : Type 0 where
+pub record HasRecordCause {T : Type 0} (before now : ℕ) (result : Result T RecordError) : Type
+    0 where
   pub later : before ≤ now
   pub device : result ≡ Err (Failed Device) → Rose before now

@@ -43,7 +43,8 @@ impl Model for Runs {
 
     ghost view = { λ r. map run_of r.runs.items };
 
-    ghost invariant = { λ r. (length r.runs.items ≤ 100) × (old_size (map run_of r.runs.items) ≤ 100) };
+    ghost invariant = { λ r. (length r.runs.items ≤ 100)
+        × (old_size (map run_of r.runs.items) ≤ 100) };
 }
 
 impl Runs {

@@ -21,14 +21,16 @@ use json_tree::{Json, Member};
 use std::alloc::AllocError;
 
 /// Appends the canonical encoding of a tree (ours; the layout is that of MySQL 8.0, json_binary.h):
-/// numbers in their narrowest type, keys and then values in the order of their entries without gaps,
-/// and a container small where its small form has at most `MAX_SMALL_BYTES`.
+/// numbers in their narrowest type, keys and then values in the order of their entries without
+/// gaps, and a container small where its small form has at most `MAX_SMALL_BYTES`.
 pub fn encode(tree: &Json, out: &mut Vec<u8>) -> Result<(), EncodeError>
-    ensures ok { OnOk result (out.new.items ≡ out.old.items ++ canonical.canonical (tree_of tree.now)) }
+    ensures ok { OnOk result (out.new.items
+        ≡ out.old.items ++ canonical.canonical (tree_of tree.now)) }
     ensures err { OnErr result (out.new.items ≡ out.old.items) }
 
     // Too large or not: exactly by the limit, unless memory runs out.
-    ensures fits { OnOk result (canonical.canonical_length (tree_of tree.now) ≤ canonical.max_document_bytes) }
+    ensures fits { OnOk result (canonical.canonical_length (tree_of tree.now)
+        ≤ canonical.max_document_bytes) }
     ensures large { IsErrOf result EncodeError.Large →
         canonical.max_document_bytes < canonical.canonical_length (tree_of tree.now) }
 
@@ -59,7 +61,8 @@ fn push_document(
     requires measured { IsMeasured (tree_of tree.now) measured }
     requires plan { plan.now ≡ extents (tree_of tree.now) }
     requires near { measured.size < canonical.max_document_bytes }
-    ensures ok { OnOk result (out.new.items ≡ out.old.items ++ canonical.canonical (tree_of tree.now)) }
+    ensures ok { OnOk result (out.new.items
+        ≡ out.old.items ++ canonical.canonical (tree_of tree.now)) }
     ensures kept { Extends out.old.items out.new.items }
 {
     out.reserve(1 + measured.size)?;
@@ -73,7 +76,8 @@ fn push_document(
 pub fn push_value(tree: &Json, plan: &[Extent], out: &mut Vec<u8>) -> Result<(), AllocError>
     requires plan { plan.now ≡ extents (tree_of tree.now) }
     requires near { (canonical.measure (tree_of tree.now)).1 ≤ canonical.max_document_bytes }
-    ensures ok { OnOk result (out.new.items ≡ out.old.items ++ (canonical.spelling (tree_of tree.now)).1) }
+    ensures ok { OnOk result (out.new.items
+        ≡ out.old.items ++ (canonical.spelling (tree_of tree.now)).1) }
     ensures kept { Extends out.old.items out.new.items }
 {
     match tree {
@@ -86,7 +90,8 @@ pub fn push_value(tree: &Json, plan: &[Extent], out: &mut Vec<u8>) -> Result<(),
 #[cycle(write)]
 fn push_array(items: &[Json], plan: &[Extent], out: &mut Vec<u8>) -> Result<(), AllocError>
     requires plan { plan.now ≡ extents (tree.array (trees (map tree_of items.now))) }
-    requires near { (canonical.measure (tree.array (trees (map tree_of items.now)))).1 ≤ canonical.max_document_bytes }
+    requires near { (canonical.measure (tree.array (trees (map tree_of items.now)))).1
+        ≤ canonical.max_document_bytes }
     ensures ok { OnOk result (out.new.items ≡ out.old.items
         ++ (canonical.spelling (tree.array (trees (map tree_of items.now)))).1) }
     ensures kept { Extends out.old.items out.new.items }
@@ -103,7 +108,8 @@ fn push_array(items: &[Json], plan: &[Extent], out: &mut Vec<u8>) -> Result<(), 
 #[cycle(write)]
 fn push_object(items: &[Member], plan: &[Extent], out: &mut Vec<u8>) -> Result<(), AllocError>
     requires plan { plan.now ≡ extents (tree.object (members (map pair_of items.now))) }
-    requires near { (canonical.measure (tree.object (members (map pair_of items.now)))).1 ≤ canonical.max_document_bytes }
+    requires near { (canonical.measure (tree.object (members (map pair_of items.now)))).1
+        ≤ canonical.max_document_bytes }
     ensures ok { OnOk result (out.new.items ≡ out.old.items
         ++ (canonical.spelling (tree.object (members (map pair_of items.now)))).1) }
     ensures kept { Extends out.old.items out.new.items }
@@ -123,7 +129,8 @@ fn push_object(items: &[Member], plan: &[Extent], out: &mut Vec<u8>) -> Result<(
 // A container's count and size.
 #[tactic(auto, using(json_tree::proofs::Growth::extends_more, json_tree::proofs::Growth::extends_on, json_tree::proofs::Growth::extends_itself))]
 fn push_header(own: Extent, count: usize, out: &mut Vec<u8>) -> Result<(), AllocError>
-    ensures ok { OnOk result (out.new.items ≡ out.old.items ++ canonical.header (form_of own.form) count own.size) }
+    ensures ok { OnOk result (out.new.items
+        ≡ out.old.items ++ canonical.header (form_of own.form) count own.size) }
     ensures kept { Extends out.old.items out.new.items }
 {
     push_word(count, own.form.word(), out)?;
@@ -140,9 +147,11 @@ fn push_elements(
     out: &mut Vec<u8>,
 ) -> Result<(), AllocError>
     requires plan { plan.now ≡ all_extents (trees (map tree_of items.now)) }
-    requires near { canonical.all_behind (form_of form) (canonical.measures (trees (map tree_of items.now))) ≤ canonical.max_document_bytes }
+    requires near { canonical.all_behind (form_of form)
+        (canonical.measures (trees (map tree_of items.now))) ≤ canonical.max_document_bytes }
     ensures ok { OnOk result (out.new.items ≡ out.old.items
-        ++ canonical.values_behind (form_of form) (canonical.spellings (trees (map tree_of items.now)))) }
+        ++ canonical.values_behind (form_of form)
+        (canonical.spellings (trees (map tree_of items.now)))) }
     ensures kept { Extends out.old.items out.new.items }
 {
     let mut rest = plan;
@@ -163,9 +172,12 @@ fn push_members(
     out: &mut Vec<u8>,
 ) -> Result<(), AllocError>
     requires plan { plan.now ≡ member_extents (members (map pair_of items.now)) }
-    requires near { canonical.all_behind (form_of form) (canonical.member_measures (members (map pair_of items.now))) ≤ canonical.max_document_bytes }
+    requires near { canonical.all_behind (form_of form)
+        (canonical.member_measures (members (map pair_of items.now)))
+        ≤ canonical.max_document_bytes }
     ensures ok { OnOk result (out.new.items ≡ out.old.items
-        ++ canonical.values_behind (form_of form) (canonical.member_spellings (members (map pair_of items.now)))) }
+        ++ canonical.values_behind (form_of form)
+        (canonical.member_spellings (members (map pair_of items.now)))) }
     ensures kept { Extends out.old.items out.new.items }
 {
     let mut rest = plan;
@@ -186,7 +198,8 @@ fn push_behind(
     out: &mut Vec<u8>,
 ) -> Result<(), AllocError>
     requires plan { plan.now ≡ extents (tree_of tree.now) }
-    requires near { canonical.behind (form_of form) (canonical.measure (tree_of tree.now)) ≤ canonical.max_document_bytes }
+    requires near { canonical.behind (form_of form) (canonical.measure (tree_of tree.now))
+        ≤ canonical.max_document_bytes }
     ensures ok { OnOk result (out.new.items ≡ out.old.items
         ++ (if layout.is_inlined (form_of form) (canonical.spelling (tree_of tree.now)).0
         then [] else (canonical.spelling (tree_of tree.now)).1)) }

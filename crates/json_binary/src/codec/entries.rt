@@ -47,7 +47,8 @@ pub fn entered_value(
     Ok(spot)
 }
 
-/// The k-th key, where it is a text behind the floor, within the size, and greater than the key before.
+/// The k-th key, where it is a text behind the floor, within the size, and greater than the key
+/// before.
 fn checked_key(
     alloc: Global,
     bytes: &[u8],
@@ -93,7 +94,8 @@ pub fn read_keys(
 ) -> Result<Vec<Text>, DecodeError>
     requires framed { IsFramed bytes.now container }
     requires object { container.is_object ≡ true }
-    ensures { Gives (λ keys. keys.items) result (reading.read_keys bytes.now (container_of container)
+    ensures { Gives (λ keys. keys.items) result
+        (reading.read_keys bytes.now (container_of container)
         (layout.count bytes.now (container_of container)) 0
         (layout.entries_end bytes.now (container_of container)) None) }
 {

@@ -79,7 +79,8 @@ pub fn group_count(number: usize, groups: u8) -> usize
     }
 }
 
-/// Appends a length in groups of seven bits, the low group first. A high bit says that another byte follows.
+/// Appends a length in groups of seven bits, the low group first. A high bit says that another byte
+/// follows.
 #[tactic(auto, using(json_tree::proofs::Growth::extends_more, json_tree::proofs::Growth::extends_on, json_tree::proofs::Growth::extends_itself))]
 pub fn push_groups(number: usize, groups: u8, out: &mut Vec<u8>) -> Result<(), AllocError>
     ensures ok { OnOk result (out.new.items ≡ out.old.items ++ canonical.groups groups number) }

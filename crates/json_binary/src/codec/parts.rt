@@ -26,8 +26,10 @@ pub struct Spelled {
 /// room takes it; no value that stands in its entry is.
 pub fn value_bytes(alloc: Global, tree: &Json) -> Result<Spelled, EncodeError>
     ensures ok { IfOk result (λ v. spelling_of v ≡ canonical.spelling (tree_of tree.now)) }
-    ensures fits { OnOk result ((canonical.measure (tree_of tree.now)).1 < canonical.max_document_bytes) }
-    ensures large { IsErrOf result EncodeError.Large → canonical.max_document_bytes ≤ (canonical.measure (tree_of tree.now)).1 }
+    ensures fits { OnOk result ((canonical.measure (tree_of tree.now)).1
+        < canonical.max_document_bytes) }
+    ensures large { IsErrOf result EncodeError.Large
+        → canonical.max_document_bytes ≤ (canonical.measure (tree_of tree.now)).1 }
     // What the tree's types keep.
     ensures is_tree { OnOk result (IsTree (tree_of tree.now)) }
 {
@@ -52,7 +54,8 @@ pub fn entry_bytes(
     form: Form,
     offset: usize,
 ) -> Result<Vec<u8>, AllocError>
-    ensures { IfOk result (λ bytes. bytes.items ≡ entry (form_of form) offset (spelling_of value.now)) }
+    ensures { IfOk result (λ bytes. bytes.items
+        ≡ entry (form_of form) offset (spelling_of value.now)) }
 {
     let mut bytes = Vec::with_capacity(alloc, form.value_width())?;
     bytes.push(value.kind.code())?;

@@ -130,7 +130,8 @@ const UNKNOWN: Extent = Extent {
 
 #[cycle(measure)]
 fn measure_elements(items: &[Json], plan: &mut Vec<Extent>) -> Result<OutOfLine, AllocError>
-    ensures behind { IfOk result (AreOutOfLine (canonical.measures (trees (map tree_of items.now)))) }
+    ensures behind { IfOk result (AreOutOfLine
+        (canonical.measures (trees (map tree_of items.now)))) }
     ensures plan { OnOk result (plan.new.items ≡ plan.old.items
         ++ all_extents (trees (map tree_of items.now))) }
     ensures are_trees { OnOk result (AreTrees (trees (map tree_of items.now))) }
@@ -145,7 +146,8 @@ fn measure_elements(items: &[Json], plan: &mut Vec<Extent>) -> Result<OutOfLine,
 
 #[cycle(measure)]
 fn measure_members(items: &[Member], plan: &mut Vec<Extent>) -> Result<OutOfLine, AllocError>
-    ensures behind { IfOk result (AreOutOfLine (canonical.member_measures (members (map pair_of items.now)))) }
+    ensures behind { IfOk result (AreOutOfLine
+        (canonical.member_measures (members (map pair_of items.now)))) }
     ensures plan { OnOk result (plan.new.items ≡ plan.old.items
         ++ member_extents (members (map pair_of items.now))) }
     ensures hold_trees { OnOk result (HoldTrees (members (map pair_of items.now))) }
@@ -184,8 +186,10 @@ impl Measured {
 
 impl OutOfLine {
     fn and(self, measured: Measured) -> OutOfLine
-        ensures small { result.small ≡ capped (self.small + canonical.behind layout.small (kind_of measured.kind, measured.size)) }
-        ensures large { result.large ≡ capped (self.large + canonical.behind layout.large (kind_of measured.kind, measured.size)) }
+        ensures small { result.small ≡ capped
+            (self.small + canonical.behind layout.small (kind_of measured.kind, measured.size)) }
+        ensures large { result.large ≡ capped
+            (self.large + canonical.behind layout.large (kind_of measured.kind, measured.size)) }
     {
         OutOfLine {
             small: self.small.saturating_add(measured.behind(Form::Small)),
@@ -212,7 +216,8 @@ fn extent_for(
     behind: OutOfLine,
     inside: usize,
 ) -> Extent
-    ensures { (n : ℕ) (vs : List canonical.Measure) → length vs ≡ count → keys ≡ capped n → AreOutOfLine vs behind →
+    ensures { (n : ℕ) (vs : List canonical.Measure) → length vs ≡ count → keys ≡ capped n
+        → AreOutOfLine vs behind →
         result ≡ extent is_object n vs inside }
 {
     let small = entries_size(Form::Small, is_object, count)

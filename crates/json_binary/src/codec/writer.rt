@@ -18,7 +18,8 @@ use std::alloc::AllocError;
 #[tactic(auto, using(json_tree::proofs::Growth::extends_more, json_tree::proofs::Growth::extends_on, json_tree::proofs::Growth::extends_itself))]
 pub fn push_scalar(tree: &Json, out: &mut Vec<u8>) -> Result<(), AllocError>
     requires { extents (tree_of tree.now) ≡ [] }
-    ensures ok { OnOk result (out.new.items ≡ out.old.items ++ (canonical.spelling (tree_of tree.now)).1) }
+    ensures ok { OnOk result (out.new.items
+        ≡ out.old.items ++ (canonical.spelling (tree_of tree.now)).1) }
     ensures kept { Extends out.old.items out.new.items }
 {
     match tree {
@@ -123,9 +124,11 @@ pub fn push_element_entries(
     out: &mut Vec<u8>,
 ) -> Result<(), AllocError>
     requires plan { plan.now ≡ all_extents (trees (map tree_of items.now)) }
-    requires near { offset + canonical.all_behind (form_of form) (canonical.measures (trees (map tree_of items.now))) ≤ canonical.max_document_bytes }
+    requires near { offset + canonical.all_behind (form_of form)
+        (canonical.measures (trees (map tree_of items.now))) ≤ canonical.max_document_bytes }
     ensures ok { OnOk result (out.new.items ≡ out.old.items
-        ++ canonical.value_entries (form_of form) offset (canonical.spellings (trees (map tree_of items.now)))) }
+        ++ canonical.value_entries (form_of form) offset
+        (canonical.spellings (trees (map tree_of items.now)))) }
     ensures kept { Extends out.old.items out.new.items }
 {
     let mut offset = offset;
@@ -148,9 +151,12 @@ pub fn push_member_entries(
     out: &mut Vec<u8>,
 ) -> Result<(), AllocError>
     requires plan { plan.now ≡ member_extents (members (map pair_of items.now)) }
-    requires near { offset + canonical.all_behind (form_of form) (canonical.member_measures (members (map pair_of items.now))) ≤ canonical.max_document_bytes }
+    requires near { offset + canonical.all_behind (form_of form)
+        (canonical.member_measures (members (map pair_of items.now)))
+        ≤ canonical.max_document_bytes }
     ensures ok { OnOk result (out.new.items ≡ out.old.items
-        ++ canonical.value_entries (form_of form) offset (canonical.member_spellings (members (map pair_of items.now)))) }
+        ++ canonical.value_entries (form_of form) offset
+        (canonical.member_spellings (members (map pair_of items.now)))) }
     ensures kept { Extends out.old.items out.new.items }
 {
     let mut offset = offset;
@@ -171,9 +177,11 @@ pub fn push_key_entries(
     offset: usize,
     out: &mut Vec<u8>,
 ) -> Result<(), AllocError>
-    requires near { offset + canonical.keys_length (members (map pair_of items.now)) ≤ canonical.max_document_bytes }
+    requires near { offset + canonical.keys_length (members (map pair_of items.now))
+        ≤ canonical.max_document_bytes }
     ensures ok { OnOk result (out.new.items ≡ out.old.items
-        ++ canonical.key_entries (form_of form) offset (canonical.keys (members (map pair_of items.now)))) }
+        ++ canonical.key_entries (form_of form) offset
+        (canonical.keys (members (map pair_of items.now)))) }
     ensures kept { Extends out.old.items out.new.items }
 {
     let mut offset = offset;

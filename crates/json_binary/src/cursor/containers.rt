@@ -29,7 +29,8 @@ pub fn root(bytes: &[u8]) -> Spot
 pub fn container_in(bytes: &[u8], spot: Spot) -> Option<Container>
     requires inside { IsInside bytes.now spot }
     ensures framed { IfSome result (IsFramed bytes.now) }
-    ensures place { IfSome result (λ c. layout.container_at bytes.now (spot_of spot) ≡ Some (container_of c)) }
+    ensures place { IfSome result (λ c.
+        layout.container_at bytes.now (spot_of spot) ≡ Some (container_of c)) }
     // Where the bytes stand for a tree, it is a scalar that has none.
     ensures stands { IfNone result ((t : Tree) → IsValue bytes.now t (spot_of spot) →
         layout.container_at bytes.now (spot_of spot) ≡ None) }
@@ -69,7 +70,8 @@ fn framed(bytes: &[u8], spot: Spot, container: Container) -> Option<Container>
     requires here { layout.container_at bytes.now (spot_of spot) ≡ Some (container_of container) }
     requires place { container.at ≡ spot.at }
     ensures framed { IfSome result (IsFramed bytes.now) }
-    ensures place { IfSome result (λ c. layout.container_at bytes.now (spot_of spot) ≡ Some (container_of c)) }
+    ensures place { IfSome result (λ c.
+        layout.container_at bytes.now (spot_of spot) ≡ Some (container_of c)) }
     ensures stands { IfNone result ((t : Tree) → IsValue bytes.now t (spot_of spot) →
         layout.container_at bytes.now (spot_of spot) ≡ None) }
 {
@@ -83,14 +85,17 @@ fn framed(bytes: &[u8], spot: Spot, container: Container) -> Option<Container>
 pub fn child(bytes: &[u8], container: Container, k: usize) -> Option<Spot>
     requires framed { IsFramed bytes.now container }
     requires inside { k < layout.count bytes.now (container_of container) }
-    ensures place { IfSome result (λ spot. spot_of spot ≡ layout.child bytes.now (container_of container) k) }
+    ensures place { IfSome result (λ spot.
+        spot_of spot ≡ layout.child bytes.now (container_of container) k) }
     ensures inside { IfSome result (IsInside bytes.now) }
     // Where the bytes stand for a tree, it stands for the tree's k-th value.
     ensures element { IfSome result (λ spot. (ts : Trees) (floor : ℕ) (t : Tree) →
-        AreElements bytes.now (container_of container) 0 floor ts → slice_get (tree_list ts) k ≡ Some t →
+        AreElements bytes.now (container_of container) 0 floor ts
+        → slice_get (tree_list ts) k ≡ Some t →
         IsValue bytes.now t (spot_of spot)) }
     ensures value { IfSome result (λ spot. (ms : Members) (floor : ℕ) (m : List ℕ × Tree) →
-        HoldValues bytes.now (container_of container) 0 floor ms → slice_get (member_list ms) k ≡ Some m →
+        HoldValues bytes.now (container_of container) 0 floor ms
+        → slice_get (member_list ms) k ≡ Some m →
         IsValue bytes.now m.1 (spot_of spot)) }
     ensures none { IfNone result ((t : Tree) →
         IsValue bytes.now t (layout.child bytes.now (container_of container) k) → ⊥) }

@@ -23,7 +23,8 @@ use json_tree::{Json, Member};
 #[cycle(equals)]
 pub fn equals(bytes: &[u8], spot: Spot, tree: &Json) -> bool
     requires inside { IsInside bytes.now spot }
-    ensures { (t : Tree) → IsValue bytes.now t (spot_of spot) → result ≡ same_tree t (tree_of tree.now) }
+    ensures { (t : Tree) → IsValue bytes.now t (spot_of spot)
+        → result ≡ same_tree t (tree_of tree.now) }
 {
     match (Kind::of(bytes[spot.type_at]), tree) {
         (Some(Kind::Literal), _) => found_equals(read_literal(bytes, spot), tree),
@@ -43,7 +44,8 @@ pub fn equals(bytes: &[u8], spot: Spot, tree: &Json) -> bool
 // A scalar that was read.
 fn found_equals(found: Result<Found, DecodeError>, tree: &Json) -> bool
     requires lean { IfErr found (λ e. e ≢ Memory) }
-    ensures { (t : Tree) → Gives (λ f. tree_of f.value) found (Ok t) → result ≡ same_tree t (tree_of tree.now) }
+    ensures { (t : Tree) → Gives (λ f. tree_of f.value) found (Ok t)
+        → result ≡ same_tree t (tree_of tree.now) }
 {
     match found {
         Ok(found) => found.value.same(tree),
@@ -54,7 +56,8 @@ fn found_equals(found: Result<Found, DecodeError>, tree: &Json) -> bool
 fn text_equals(bytes: &[u8], spot: Spot, letters: &str) -> bool
     requires inside { IsInside bytes.now spot }
     requires kind { layout.kind_at bytes.now spot.type_at ≡ layout.string }
-    ensures { (t : Tree) → IsValue bytes.now t (spot_of spot) → result ≡ same_tree t (text letters.now) }
+    ensures { (t : Tree) → IsValue bytes.now t (spot_of spot)
+        → result ≡ same_tree t (text letters.now) }
 {
     match text_range(bytes, spot) {
         Some((start, end)) => &bytes[start..end] == letters.as_bytes(),

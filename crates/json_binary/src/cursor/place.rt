@@ -95,7 +95,8 @@ impl Container {
         requires framed { IsFramed bytes.now self }
         requires inside { k < layout.count bytes.now (container_of self) }
         ensures place { result ≡ layout.value_entry bytes.now (container_of self) k }
-        ensures whole { result + layout.value_width (form_of self.form) ≤ layout.end bytes.now (container_of self) }
+        ensures whole { result + layout.value_width (form_of self.form)
+            ≤ layout.end bytes.now (container_of self) }
     {
         self.values_at(bytes) + k * self.form.value_width()
     }
@@ -114,7 +115,8 @@ impl Container {
         (start, start + length as usize)
     }
 
-    /// Where the values begin at the earliest: at the end of the keys, or of the entries where there are none.
+    /// Where the values begin at the earliest: at the end of the keys, or of the entries where
+    /// there are none.
     pub fn values_floor(self, bytes: &[u8]) -> usize
         requires framed { IsFramed bytes.now self }
         ensures { result ≡ layout.values_floor bytes.now (container_of self) }
@@ -151,7 +153,8 @@ impl Container {
     #[tactic(auto, using(crate::proofs::Codes::others_stand_apart))]
     pub fn inlines(self, bytes: &[u8], type_at: usize) -> bool
         requires { type_at < length bytes.now }
-        ensures { result ≡ layout.is_inlined (form_of self.form) (layout.kind_at bytes.now type_at) }
+        ensures { result ≡ layout.is_inlined (form_of self.form)
+            (layout.kind_at bytes.now type_at) }
     {
         match Kind::of(bytes[type_at]) {
             Some(kind) => kind.is_inlined(self.form),

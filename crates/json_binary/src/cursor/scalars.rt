@@ -89,7 +89,8 @@ pub fn read_unsigned(bytes: &[u8], spot: Spot, width: Width) -> Result<Found, De
     })
 }
 
-/// A length in at most so many groups of seven bits, the low group first, and how many bytes it takes.
+/// A length in at most so many groups of seven bits, the low group first, and how many bytes it
+/// takes.
 fn grouped(bytes: &[u8], groups: u8) -> Option<(u64, usize)>
     requires { groups ≤ 5 }
     ensures value { result ≡ layout.grouped groups bytes.now }
@@ -133,7 +134,8 @@ pub fn read_text(alloc: Global, bytes: &[u8], spot: Spot) -> Result<Found, Decod
     ensures value { Gives (λ f. tree_of f.value) result
         (text_from bytes.now spot.at (layout.text_range bytes.now spot.at spot.limit)) }
     ensures end { IfOk result (λ f. f.end ≡
-        unwrap_or (option_map (λ r. r.1) (layout.text_range bytes.now spot.at spot.limit)) spot.at) }
+        unwrap_or (option_map (λ r. r.1) (layout.text_range bytes.now spot.at spot.limit))
+        spot.at) }
 {
     let Some((start, end)) = text_range(bytes, spot) else {
         return Err(DecodeError::Truncated(spot.at));

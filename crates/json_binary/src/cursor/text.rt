@@ -24,7 +24,8 @@ use std::alloc::AllocError;
 /// run out; bytes in which none is found are answered by the same error. At `Err` the text is as
 /// before.
 pub fn print(bytes: &[u8], out: &mut Vec<u8>) -> Result<(), AllocError>
-    ensures ok { OnOk result ((t : Tree) → Stands bytes.now t → out.new.items ≡ out.old.items ++ tree_text t) }
+    ensures ok { OnOk result ((t : Tree) → Stands bytes.now t
+        → out.new.items ≡ out.old.items ++ tree_text t) }
     ensures err { OnErr result (out.new.items ≡ out.old.items) }
 {
     if bytes.is_empty() {
@@ -156,8 +157,10 @@ fn push_elements(
     out: &mut Vec<u8>,
 ) -> Result<(), AllocError>
     requires framed { IsFramed bytes.now container }
-    ensures ok { OnOk result ((ts : Trees) (floor : ℕ) → AreElements bytes.now (container_of container) 0 floor ts →
-        length (tree_list ts) ≡ layout.count bytes.now (container_of container) → trees_depth ts ≤ nesting →
+    ensures ok { OnOk result ((ts : Trees) (floor : ℕ)
+        → AreElements bytes.now (container_of container) 0 floor ts →
+        length (tree_list ts) ≡ layout.count bytes.now (container_of container)
+        → trees_depth ts ≤ nesting →
         out.new.items ≡ out.old.items ++ trees_text false ts) }
     ensures kept { Extends out.old.items out.new.items }
 {
@@ -183,7 +186,8 @@ fn push_members(
     ensures ok { OnOk result ((ms : Members) (start floor : ℕ) →
         AreKeys bytes.now (container_of container) 0 start (map (λ m. m.0) (member_list ms)) →
         HoldValues bytes.now (container_of container) 0 floor ms →
-        length (member_list ms) ≡ layout.count bytes.now (container_of container) → members_depth ms ≤ nesting →
+        length (member_list ms) ≡ layout.count bytes.now (container_of container)
+        → members_depth ms ≤ nesting →
         out.new.items ≡ out.old.items ++ members_text false ms) }
     ensures kept { Extends out.old.items out.new.items }
 {
@@ -208,7 +212,8 @@ fn push_child(
 ) -> Result<(), AllocError>
     requires framed { IsFramed bytes.now container }
     requires inside { k < layout.count bytes.now (container_of container) }
-    ensures ok { OnOk result ((t : Tree) → IsValue bytes.now t (layout.child bytes.now (container_of container) k) →
+    ensures ok { OnOk result ((t : Tree)
+        → IsValue bytes.now t (layout.child bytes.now (container_of container) k) →
         depth t ≤ nesting → out.new.items ≡ out.old.items ++ tree_text t) }
     ensures kept { Extends out.old.items out.new.items }
 {
@@ -229,7 +234,9 @@ fn push_key(
     requires framed { IsFramed bytes.now container }
     requires object { container.is_object ≡ true }
     requires inside { k < layout.count bytes.now (container_of container) }
-    ensures ok { OnOk result (out.new.items ≡ out.old.items ++ (quoted (layout.key_of bytes.now (container_of container) k) ++ 58 ∷ 32 ∷ [])) }
+    ensures ok { OnOk result (out.new.items
+        ≡ out.old.items ++ (quoted (layout.key_of bytes.now (container_of container) k) ++ 58 ∷ 32
+        ∷ [])) }
     ensures kept { Extends out.old.items out.new.items }
 {
     let (start, end) = container.key_range(bytes, k);

@@ -112,8 +112,10 @@ fn object_used(bytes: &[u8], spot: Spot, form: Form, nesting: u32) -> usize
 fn keys_used(bytes: &[u8], container: Container) -> usize
     requires framed { IsFramed bytes.now container }
     requires object { container.is_object ≡ true }
-    ensures { (ks : List (List ℕ)) (floor : ℕ) → AreKeys bytes.now (container_of container) 0 floor ks →
-        length ks ≡ layout.count bytes.now (container_of container) → result ≡ capped (total_length ks) }
+    ensures { (ks : List (List ℕ)) (floor : ℕ)
+        → AreKeys bytes.now (container_of container) 0 floor ks →
+        length ks ≡ layout.count bytes.now (container_of container)
+        → result ≡ capped (total_length ks) }
 {
     let mut total = 0usize;
     for k in 0..container.count(bytes) {
@@ -128,7 +130,8 @@ fn keys_used(bytes: &[u8], container: Container) -> usize
 fn values_used(bytes: &[u8], container: Container, nesting: u32) -> usize
     requires framed { IsFramed bytes.now container }
     ensures { (ts : Trees) (floor : ℕ) → AreElements bytes.now (container_of container) 0 floor ts →
-        length (tree_list ts) ≡ layout.count bytes.now (container_of container) → trees_depth ts ≤ nesting →
+        length (tree_list ts) ≡ layout.count bytes.now (container_of container)
+        → trees_depth ts ≤ nesting →
         result ≡ capped (stands.elements_used bytes.now (container_of container) 0 ts) }
 {
     let mut total = 0usize;
@@ -143,9 +146,11 @@ fn values_used(bytes: &[u8], container: Container, nesting: u32) -> usize
 fn behind_used(bytes: &[u8], container: Container, k: usize, nesting: u32) -> usize
     requires framed { IsFramed bytes.now container }
     requires inside { k < layout.count bytes.now (container_of container) }
-    ensures { (t : Tree) → IsValue bytes.now t (layout.child bytes.now (container_of container) k) → depth t ≤ nesting →
+    ensures { (t : Tree) → IsValue bytes.now t (layout.child bytes.now (container_of container) k)
+        → depth t ≤ nesting →
         result ≡ (if layout.inlined bytes.now (container_of container) k then 0
-        else capped (stands.used_in bytes.now t (layout.child bytes.now (container_of container) k))) }
+        else capped (stands.used_in bytes.now t
+        (layout.child bytes.now (container_of container) k))) }
 {
     let spot = container.child(bytes, k);
     if container.inlines(bytes, spot.type_at) {

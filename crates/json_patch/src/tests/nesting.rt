@@ -68,7 +68,8 @@ fn a_value_nests_too_deep_alone(rt: HostRuntime) -> Result<(), Fail> {
 #[test]
 fn a_value_that_nests_too_deep_is_replaced_again(rt: HostRuntime) -> Result<(), Fail> {
     let alloc = rt.alloc();
-    // 100 lists take 99 times 7 and 4 bytes, none of them a k, and with the object they are too many.
+    // 100 lists take 99 times 7 and 4 bytes, none of them a k, and with the object they are too
+    // many.
     let deep = nested(alloc, 100, "")?;
     let pairs = [("$.a", deep.as_str()), ("$.a", "5")];
     let text = with_letters(alloc)?;

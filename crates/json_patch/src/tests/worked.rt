@@ -27,7 +27,8 @@ fn the_worked_changes(rt: HostRuntime) -> Result<(), Fail> {
     Ok(())
 }
 
-/// Each step is of the document that the steps before it left: path, value (none removes), places that differ.
+/// Each step is of the document that the steps before it left: path, value (none removes), places
+/// that differ.
 type Steps<'a> = &'a [(&'a str, &'a str, usize)];
 
 #[test]

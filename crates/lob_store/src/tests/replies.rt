@@ -22,7 +22,8 @@ fn replies(rt: &HostRuntime, transcript: &[u8]) -> Result<Vec<u8>, Fail> {
 fn replies_to_changes(rt: HostRuntime) -> Result<(), Fail> {
     let cases: [(&[u8], &[u8]); 7] = [
         (
-            b"s1 set 1 [\"$.d\",1]\ns1 replace 1 [\"$.e\",1]\ns1 remove 1 [\"$.e\"]\ns1 set 1 [\"$.a\",1000]\ns1 insert 1 1\n",
+            b"s1 set 1 [\"$.d\",1]\ns1 replace 1 [\"$.e\",1]\ns1 remove 1 [\"$.e\"]\n\
+              s1 set 1 [\"$.a\",1000]\ns1 insert 1 1\n",
             b"ok full\nok full\nsame\nsame\nsame\nerr exists\n",
         ),
         (
@@ -46,7 +47,8 @@ fn replies_to_changes(rt: HostRuntime) -> Result<(), Fail> {
         ),
         // The root, and positions on a value that is no list.
         (
-            b"s1 set 1 [\"$\",1]\ns1 set 1 [\"$[last-3]\",9]\ns1 set 1 [\"$[1]\",2]\ns1 set 1 [\"$[last]\",3]\ns1 get 1\n",
+            b"s1 set 1 [\"$\",1]\ns1 set 1 [\"$[last-3]\",9]\ns1 set 1 [\"$[1]\",2]\n\
+              s1 set 1 [\"$[last]\",3]\ns1 get 1\n",
             b"ok full\nok full\nsame\nok full\nok part 1\ndoc [1, 3]\n",
         ),
         (
@@ -75,11 +77,13 @@ fn changes_in_place_and_sizes(rt: HostRuntime) -> Result<(), Fail> {
         // A shorter text leaves its room.
         (
             b"s1 set 1 [\"$.b\",\"a\"]\ns1 size 1\ns1 get 1\n",
-            b"ok full\nok part 2\nsize 47 free 3\ndoc {\"a\": 1000, \"b\": \"a\", \"c\": \"[1, 3, 5, 7]\"}\n",
+            b"ok full\nok part 2\nsize 47 free 3\n\
+              doc {\"a\": 1000, \"b\": \"a\", \"c\": \"[1, 3, 5, 7]\"}\n",
         ),
         // Which the old text fills again, and a longer one doesn't fit.
         (
-            b"s1 set 1 [\"$.b\",\"a\"]\ns1 set 1 [\"$.b\",\"wxyz\"]\ns1 size 1\ns1 set 1 [\"$.b\",\"abcde\"]\ns1 size 1\n",
+            b"s1 set 1 [\"$.b\",\"a\"]\ns1 set 1 [\"$.b\",\"wxyz\"]\ns1 size 1\n\
+              s1 set 1 [\"$.b\",\"abcde\"]\ns1 size 1\n",
             b"ok full\nok part 2\nok part 2\nsize 47 free 0\nok full\nsize 48 free 0\n",
         ),
         // A number stands in its entry, and the text comes back to its place.

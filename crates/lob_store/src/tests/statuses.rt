@@ -93,7 +93,7 @@ fn faults_of_source_and_sink(rt: HostRuntime) -> Result<(), Fail> {
 }
 
 #[test]
-fn most_statements(rt: HostRuntime) -> Result<(), Fail> {
+fn max_statements(rt: HostRuntime) -> Result<(), Fail> {
     let mut script = Vec::new(rt.alloc());
     for _ in 0..100_000 {
         script.extend_from_slice(b"s1 get 1\n")?;

@@ -10,7 +10,7 @@ invariant_of-self c =
     let inside = c.self.inside in
     let few : inside.count < 32 = omega (arith, c.requires.few, length-batch inside.count inside.buffer.items, ap (λ (s : BatchState). length s.batch) c.self.view_is) in
     let below : c.args.page.0 < inside.layout.pages = let P : Layout → Type 0 = λ l. c.args.page.0 < l.pages in subst P (sym (ap (λ (s : BatchState). s.layout) c.self.view_is)) c.requires.below in
-    let small : c.args.page.0 < 2 ^ 32 = omega (arith, below, c.self.invariant.0.limits.most_pages) in (
+    let small : c.args.page.0 < 2 ^ 32 = omega (arith, below, c.self.invariant.0.limits.max_pages) in (
       keeps_more inside.count c.args.page.0 inside.buffer.items c.bytes.result.now c.append.new.buffer.items few c.self.invariant.0.size c.bytes.ensures.len small c.append.ensures.items inside.layout c.self.invariant.0 below,
       c.append.ensures.capacity,
     )
@@ -20,7 +20,7 @@ returns c =
     let inside = c.self.inside in
     let few : inside.count < 32 = omega (arith, c.requires.few, length-batch inside.count inside.buffer.items, ap (λ (s : BatchState). length s.batch) c.self.view_is) in
     let below : c.args.page.0 < inside.layout.pages = let P : Layout → Type 0 = λ l. c.args.page.0 < l.pages in subst P (sym (ap (λ (s : BatchState). s.layout) c.self.view_is)) c.requires.below in
-    let small : c.args.page.0 < 2 ^ 32 = omega (arith, below, c.self.invariant.0.limits.most_pages) in
+    let small : c.args.page.0 < 2 ^ 32 = omega (arith, below, c.self.invariant.0.limits.max_pages) in
     let more = batch_more inside.count c.args.page.0 inside.buffer.items c.bytes.result.now c.append.new.buffer.items few c.self.invariant.0.size c.bytes.ensures.len small c.append.ensures.items in
     state_is (ap (λ (s : BatchState). s.layout) c.self.view_is)
     (more ∙ ap₂ (λ (b : Batch) (xs : List ℕ). b ++ (c.args.page.0, xs) ∷ []) (ap (λ (s : BatchState). s.batch) c.self.view_is) c.bytes.ensures.value)
