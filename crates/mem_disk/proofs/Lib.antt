@@ -1,2 +1,4 @@
+pub mod CrashLemmas
 pub mod OverlaidLemmas
 pub mod MemDiskLemmas
+pub mod ReplayLemmas

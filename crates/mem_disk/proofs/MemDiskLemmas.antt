@@ -1,8 +1,8 @@
 -- One event more: what a disk in memory reads as, and what a crash may leave of it.
-use Rattle.std.proofs.Common.{◌≡◌, ◌⊎◌, inl, inr, ⊎_elim, ℕ, ◌+◌, ◌-◌, ◌<◌, ◌≤◌, Bool, true, false, List, [], ◌∷◌, ◌++◌, length, take, drop, Option, Result, Ok, max, Contains, if◌then◌else◌, refl, sym, ap, ap₂, subst, ◌∙◌, arith}
+use Rattle.std.proofs.Common.{◌≡◌, ◌⊎◌, inl, inr, ⊎_elim, ℕ, ◌+◌, ◌-◌, ◌<◌, ◌≤◌, true, false, List, [], ◌∷◌, ◌++◌, length, take, drop, Option, Ok, max, Contains, if◌then◌else◌, refl, sym, ap, ap₂, subst, ◌∙◌, arith}
 use Rattle.std.proofs.Math.Arith.{lt_of_le-ne}
 use Rattle.std.proofs.lemmas.Bool.{cases_eq}
-use Rattle.std.proofs.lemmas.List.{append-nil, take_all, take-append-le, drop-append-le, length-drop, length-append, take_at}
+use Rattle.std.proofs.lemmas.List.{append-nil, take_all, take-append-le, drop-append-le, length-drop, length-append}
 use Rattle.engine_base.specs.Disk.{Torn, Only, Elapses, Follows, GoesOn}
 use Rattle.engine_base.specs.Numbers.{raised}
 use Rattle.mem_disk.specs.SureDisk.{overlaid}
@@ -31,6 +31,7 @@ after_more s [] e = refl
 after_more s (wrote at bytes ∷ events) e = after_more (record { file = s.file; writes = s.writes ++ (at, bytes) ∷ [] }) events e
 after_more s (synced ∷ events) e = after_more (record { file = reads_as s; writes = [] }) events e
 
+-- a write more is made over the file that the others leave
 pub written_more : (writes : List Write) (file : List ℕ) (w : Write) → written_over (writes ++ w ∷ []) file ≡ overlaid (written_over writes file) w.0 w.1
 written_more [] file w = refl
 written_more (x ∷ writes) file w = written_more writes (overlaid file x.0 x.1) w
@@ -117,10 +118,12 @@ elapses_same m n base events =
 
 -- ---- the disk's calls
 
+-- a disk in memory, from its parts
 abbrev pub mem : List ℕ → List Event → List ℕ → List ℕ → Option ℕ → ℕ → ℕ → ℕ → ℕ → ℕ → MemState
 mem base events reads fails stop room used calls writes faults =
     record { base = base; events = events; reads = reads; fails = fails; stop_after = stop; room = room; used = used; calls = calls; writes = writes; faults = faults }
 
+-- a call that is listed, past the stop, or past the room that is left is refused
 pub refuses_of : (m n : MemState) (fails : List ℕ) (call more : ℕ) → m ≡ n → fails ≡ m.fails → call ≡ raised m.calls
     → Contains fails call ⊎ IsStopped m.stop_after m.writes ⊎ (m.room - m.used < 64 + more) → Refuses n more
 refuses_of m n fails call more same listed numbered why =
@@ -129,28 +132,35 @@ refuses_of m n fails call more same listed numbered why =
     let C : ℕ → Type 0 = λ k. Contains fails k in
     subst P same (⊎_elim (λ a. inl (subst L listed (subst C numbered a))) (λ b. ⊎_elim (λ s. inr (inl s)) (λ r. inr (inr (omega (arith, r)))) b) why)
 
+-- a call that is Ok, with no event and no fault more, does what every call does
 pub goes_same : {T : Type 0} (m n : MemState) (x : T) → n.base ≡ m.base → n.events ≡ m.events → n.faults ≡ m.faults → GoesOn (disk_state m) (disk_state n) (Ok x)
 goes_same m n x base events faults = record { tells = refl; time = elapses_same m n base events; cause = record { later = omega (arith, faults); device = λ is. cc }; plain = tt }
 
+-- so does one with one event more
 pub goes_more : {T : Type 0} (m n : MemState) (e : Event) (x : T) → n.base ≡ m.base → n.events ≡ m.events ++ e ∷ [] → n.faults ≡ m.faults → GoesOn (disk_state m) (disk_state n) (Ok x)
 goes_more m n e x base events faults = record { tells = refl; time = elapses_more m n e base events; cause = record { later = omega (arith, faults); device = λ is. cc }; plain = tt }
 
+-- the step of a sync
 abbrev pub sync_step : Step
 sync_step = record { is_sync = true; at = 0; len = 0 }
 
+-- the step of a write of so many bytes at a place
 abbrev pub write_step : ℕ → ℕ → Step
 write_step at len = record { is_sync = false; at = at; len = len }
 
+-- with the step of a sync behind the others, the events are those and a sync
 pub events_synced : (steps steps' : List Step) (bytes : List ℕ) → total steps ≡ length bytes → steps' ≡ steps ++ sync_step ∷ [] → events_in steps' bytes ≡ events_in steps bytes ++ synced ∷ []
 events_synced steps steps' bytes whole is =
     ap (λ (ss : List Step). events_in ss bytes) is ∙ ap (events_in (steps ++ sync_step ∷ [])) (sym (append-nil bytes)) ∙ events_more steps bytes [] sync_step whole
 
+-- with the step of a write and its bytes behind the others, they are those and the write
 pub events_written : (steps steps' : List Step) (bytes new bytes' : List ℕ) (at len : ℕ) → total steps ≡ length bytes → len ≡ length new → steps' ≡ steps ++ write_step at len ∷ [] → bytes' ≡ bytes ++ new
     → events_in steps' bytes' ≡ events_in steps bytes ++ wrote at new ∷ []
 events_written steps steps' bytes new bytes' at len whole long is more =
     ap₂ events_in is more ∙ events_more steps bytes new (write_step at len) whole
     ∙ ap (λ (xs : List ℕ). events_in steps bytes ++ wrote at xs ∷ []) (take_all len new (omega (arith, long)))
 
+-- a disk with room for a sync's record keeps its parts with the sync behind the others
 pub keeps_synced : (base contents : List ℕ) (steps steps' : List Step) (bytes reads : List ℕ) (room used sc sc' bc rc cc : ℕ) → KeepsMem base contents steps bytes reads room used sc bc rc cc
     → steps' ≡ steps ++ sync_step ∷ [] → sc ≤ sc' → used + 64 ≤ room → KeepsMem base contents steps' bytes reads room (used + 64) sc' bc rc cc
 keeps_synced base contents steps steps' bytes reads room used sc sc' bc rc cc k is grown fits =
@@ -172,6 +182,7 @@ keeps_synced base contents steps steps' bytes reads room used sc sc' bc rc cc k 
       contents_fit = omega (arith, cf);
     }
 
+-- and with a write, where there is room for its record, its bytes and the file's growth
 pub keeps_written : (base contents contents' : List ℕ) (steps steps' : List Step) (bytes bytes' reads new : List ℕ) (at len more room used sc sc' bc bc' rc cc cc' : ℕ) → KeepsMem base contents steps bytes reads room used sc bc rc cc
     → len ≡ length new → steps' ≡ steps ++ write_step at len ∷ [] → bytes' ≡ bytes ++ new → contents' ≡ overlaid contents at new → more ≡ length new + ((at + length new) - length contents)
     → sc ≤ sc' → bc ≤ bc' → cc ≤ cc' → used + (64 + more) ≤ room → KeepsMem base contents' steps' bytes' reads room (used + (64 + more)) sc' bc' rc cc'
@@ -233,6 +244,7 @@ module _ (m old : MemState) (events : List Event) (at : ℕ) (bytes : List ℕ) 
       let Q : List ℕ → Type 0 = λ b. P b events in
       subst Q (sym write_base) (subst (P old.base) (sym write_events) (image_written old.base old.events at bytes))
 
+-- a disk with a write's event, the room that it takes and a write more is the disk after it
 pub write_ok : (m old : MemState) (events : List Event) (at : ℕ) (bytes : List ℕ) (more size writes : ℕ) → m ≡ after_call old → events ≡ m.events ++ wrote at bytes ∷ [] → more ≡ length bytes + ((at + length bytes) - size)
     → size ≡ length (contents_in old) → writes ≡ raised m.writes → mem m.base events m.reads m.fails m.stop_after m.room (m.used + (64 + more)) m.calls writes m.faults ≡ after_write old at bytes
 write_ok m old events at bytes more size writes counted is cost sized raised_is =

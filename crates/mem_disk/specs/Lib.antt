@@ -1,3 +1,4 @@
+pub mod Crash
 pub mod MemDisk
 pub mod MemDiskLaws
 pub mod MemPages

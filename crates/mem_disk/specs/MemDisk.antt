@@ -1,9 +1,11 @@
--- A disk in memory that keeps each call: what it shows, what a crash may leave of it, and which calls fail.
+-- A disk in memory that keeps each call: what it shows, what a crash may leave of it, and which
+-- calls fail.
 --     Event, Settled      a write or a sync; the contents of the last sync with the writes since
---     contents_of, IsImage, LeftSince      what a read gives; what a crash may leave, and might have left
+--     contents_of, IsImage, LeftSince      what a read gives; what a crash may leave, and might
+--                                          have left
 --     MemState, disk_state      what callers see of the disk; what it shows as a disk
 --     Refuses      the next call fails
-use Rattle.std.specs.Prelude.{◌≡◌, ◌⊎◌, ℕ, ◌+◌, ◌-◌, ◌*◌, ◌^◌, ◌<◌, ◌≤◌, Bool, true, false, List, [], ◌∷◌, ◌++◌, length, take, drop, Option, Some, None, Contains, if◌then◌else◌}
+use Rattle.std.specs.Prelude.{◌≡◌, ◌⊎◌, ℕ, ◌+◌, ◌-◌, ◌*◌, ◌^◌, ◌<◌, ◌≤◌, true, List, [], ◌∷◌, ◌++◌, length, take, drop, Option, Some, None, Contains, if◌then◌else◌}
 use Rattle.engine_base.specs.Disk.{DiskState, Torn}
 use Rattle.engine_base.specs.Numbers.{raised}
 use Rattle.mem_disk.specs.SureDisk.{overlaid}
@@ -103,7 +105,8 @@ abbrev pub IsStopped : Option ℕ → ℕ → Type 0
 IsStopped None writes = ⊥
 IsStopped (Some most) writes = most ≤ writes
 
--- the next call, whose record takes 64 bytes and so many more, is listed, past the stop, or past the room
+-- the next call, whose record takes 64 bytes and so many more, is listed, past the stop, or past
+-- the room
 abbrev pub Refuses : MemState → ℕ → Type 0
 Refuses m more = Contains m.fails (raised m.calls) ⊎ IsStopped m.stop_after m.writes
     ⊎ (m.room < m.used + (64 + more))

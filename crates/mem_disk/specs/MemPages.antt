@@ -7,6 +7,14 @@ use Rattle.mem_disk.specs.declared.mem_pages.MemPages.{MemPages}
 abbrev pub pages_in : MemPages → Pages
 pages_in m = m.pages.items
 
--- it keeps no account of its writes, no page counts as pinned, a write takes no room, and no call fails
+-- it keeps no account of its writes, no page counts as pinned, a write takes no room, and no call
+-- fails
 abbrev pub page_state : MemPages → PageState
-page_state m = record { told = Some (pages_in m); writes = None; count = length (pages_in m); touched = []; room = whole_room; faults = 0 }
+page_state m = record {
+  told = Some (pages_in m);
+  writes = None;
+  count = length (pages_in m);
+  touched = [];
+  room = whole_room;
+  faults = 0;
+}

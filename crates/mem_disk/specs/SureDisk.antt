@@ -8,9 +8,11 @@ pub record Sure : Type 0 where
   pub room : ℕ
   pub faults : ℕ
 
--- a file with bytes written at a place: what stood before it, zeros where nothing did, the bytes, and what stood behind them
+-- a file with bytes written at a place: what stood before it, zeros where nothing did, the bytes,
+-- and what stood behind them
 unfoldable pub overlaid : List ℕ → ℕ → List ℕ → List ℕ
-overlaid file at bytes = take at file ++ (replicate (at - length file) 0 ++ (bytes ++ drop (at + length bytes) file))
+overlaid file at bytes = take at file
+    ++ (replicate (at - length file) 0 ++ (bytes ++ drop (at + length bytes) file))
 
 -- the disk after a write that was made
 abbrev pub after_write : Sure → ℕ → List ℕ → Sure

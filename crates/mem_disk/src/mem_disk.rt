@@ -1,12 +1,15 @@
-// A disk in memory that keeps each of its calls, fails where it is told to, and tells what a crash may leave.
+// A disk in memory that keeps each of its calls, fails where it is told to, and tells what a crash
+// may leave.
 ghost use Rattle.std.specs.Prelude.{◌≡◌, ◌⊎◌, ◌+◌, ◌-◌, ◌*◌, ◌<◌, ◌≤◌, ◌^◌, ◌↔◌, ◌++◌, [], ◌∷◌, ℕ, List, Some, Option, length, max, vec_len, vec_capacity, Contains, IsTrue, IsOk, IsErr, IfOk, OnOk, OnErr};
 ghost use Rattle.std.proofs.Common.{inl};
 ghost use Rattle.engine_base.specs.Numbers.{raised};
-ghost use Rattle.mem_disk.specs.MemDisk.{contents_in, disk_state, Refuses, IsStopped, write_cost, after_fault, after_read, after_write, after_sync, after_call, after_record};
+ghost use Rattle.mem_disk.specs.MemDisk.{contents_in, disk_state, Refuses, IsStopped, write_cost, after_fault, after_read, after_write, after_sync, after_call, after_record, IsImage};
 ghost use Rattle.engine_base.specs.Disk.{Holds, Torn, Written, Follows, Only, Stays, GoesOn};
 ghost use Rattle.engine_base.specs.Faults.{HasCause, FailsPlainly};
+ghost use Rattle.mem_disk.specs.Crash.{crashed, reads_from};
 ghost use Rattle.mem_disk.specs.MemDiskLaws.{reads_as_image, image_now};
 
+use crate::crash::crash;
 use crate::sure_disk::overwrite;
 use engine_base::{Disk, Fault};
 use std::alloc::{AllocError, Global};
@@ -14,16 +17,17 @@ use std::marker::Model;
 
 // A write or a sync in the record.
 #[derive(Clone, Copy, Drop)]
-struct Step {
-    is_sync: bool,
-    at: u64,
-    len: usize,
+pub(crate) struct Step {
+    pub(crate) is_sync: bool,
+    pub(crate) at: u64,
+    pub(crate) len: usize,
 }
 
 /// Bytes in memory as a disk, with a record of its calls in a room that is taken at once.
 ///
-/// The calls with the listed numbers, from 1, fail; after so many writes all calls fail; and so does a call for whose
-/// record no room is left. Each call takes 64 bytes of it, a write its length and the growth of the size besides.
+/// The calls with the listed numbers, from 1, fail; after so many writes all calls fail; and so
+/// does a call for whose record no room is left. Each call takes 64 bytes of it, a write its length
+/// and the growth of the size besides.
 #[derive(Drop)]
 pub struct MemDisk {
     base: Vec<u8>,
@@ -64,7 +68,8 @@ impl Model for MemDisk {
         (vec_capacity m.reads) (vec_capacity m.contents) };
 }
 
-// Whether a call whose record takes 64 bytes and so many more is listed, past the stop, or past the room that is left.
+// Whether a call whose record takes 64 bytes and so many more is listed, past the stop, or past the
+// room that is left.
 fn refuses(
     fails: &[u64],
     call: u64,
@@ -92,6 +97,19 @@ fn cost_of(at: u64, len: u64, size: u64) -> u64
     at.saturating_add(len)
         .saturating_sub(size)
         .saturating_add(len)
+}
+
+// How many of the places are that one or behind it.
+fn count_from(places: &[u64], from: u64) -> u64
+    ensures { result ≡ reads_from from places.now }
+{
+    let mut count = 0;
+    for place in places {
+        if from <= *place {
+            count += 1;
+        }
+    }
+    count
 }
 
 impl MemDisk {
@@ -140,6 +158,31 @@ impl MemDisk {
         ensures { result.now ≡ contents_in self.now }
     {
         &self.contents
+    }
+
+    /// An image that a crash now may leave, of the size that a read finds and with zeros where
+    /// nothing stands. It has the last sync's bytes and of the writes since, by the rest of `pick`
+    /// at 4: 0 none, 1 all, 2 all but the last, 3 as 2 and the first half, rounded down, of the
+    /// last.
+    pub fn crash(&self, alloc: Global, pick: u64) -> Result<Vec<u8>, AllocError>
+        ensures image { IfOk result (λ c. IsImage self.now.base self.now.events c.items) }
+        ensures picks { IfOk result (λ c. c.items ≡ crashed pick self.now.base self.now.events) }
+    {
+        crash(
+            alloc,
+            pick,
+            &self.base,
+            self.contents.len(),
+            &self.steps,
+            &self.bytes,
+        )
+    }
+
+    /// How many reads were made at that place or behind it.
+    pub fn reads(&self, from: u64) -> u64
+        ensures { result ≡ reads_from from self.now.reads }
+    {
+        count_from(&self.reads, from)
     }
 
     // Counts a call, or tells that it fails. Its record takes 64 bytes and so many more.
@@ -208,10 +251,13 @@ impl Disk for MemDisk {
     }
 
     fn write_at(&mut self, at: u64, bytes: &[u8]) -> Result<(), Fault>
-        ensures written { OnOk result (Written at bytes.now (contents_in self.old) (contents_in self.new)) }
+        ensures written { OnOk result (Written at bytes.now (contents_in self.old)
+            (contents_in self.new)) }
         ensures torn { Torn at (length bytes.now) (contents_in self.old) (contents_in self.new) }
-        ensures images { Follows (Torn at (length bytes.now)) (disk_state self.old).may_leave (disk_state self.new).may_leave }
-        ensures fails { IsErr result ↔ Refuses self.old (write_cost self.old at (length bytes.now)) }
+        ensures images { Follows (Torn at (length bytes.now)) (disk_state self.old).may_leave
+            (disk_state self.new).may_leave }
+        ensures fails { IsErr result ↔ Refuses self.old
+            (write_cost self.old at (length bytes.now)) }
         ensures ok { OnOk result (self.new ≡ after_write self.old at bytes.now) }
         ensures err { OnErr result (self.new ≡ after_fault self.old) }
         ensures goes_on { GoesOn (disk_state self.old) (disk_state self.new) result }
@@ -233,9 +279,11 @@ impl Disk for MemDisk {
     }
 
     fn sync(&mut self) -> Result<(), Fault>
-        ensures durable { OnOk result (Only (contents_in self.old) (disk_state self.new).may_leave) }
+        ensures durable { OnOk result (Only (contents_in self.old)
+            (disk_state self.new).may_leave) }
         ensures seen { (disk_state self.new).seen ≡ (disk_state self.old).seen }
-        ensures images { (c : List ℕ) → (disk_state self.new).may_leave c → (disk_state self.old).may_leave c }
+        ensures images { (c : List ℕ) → (disk_state self.new).may_leave c
+            → (disk_state self.old).may_leave c }
         ensures fails { IsErr result ↔ Refuses self.old 0 }
         ensures ok { OnOk result (self.new ≡ after_sync self.old) }
         ensures err { OnErr result (self.new ≡ after_fault self.old) }

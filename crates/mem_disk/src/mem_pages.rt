@@ -34,7 +34,8 @@ impl Pages for MemPages {
 
     ghost state = { page_state };
 
-    ghost whole = { λ m pages told. whole_pages m.pages.items pages (length m.pages.items) refl told m.sizes };
+    ghost whole = { λ m pages told. whole_pages m.pages.items pages (length m.pages.items) refl told
+        m.sizes };
 
     ghost few = { λ m. m.few };
 

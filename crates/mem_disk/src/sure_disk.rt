@@ -9,7 +9,8 @@ use engine_base::{Disk, Fault};
 use std::alloc::{AllocError, Global};
 use std::marker::Model;
 
-/// Bytes in memory as a disk. Only a write that would end past its room fails, and that one leaves the bytes as they were.
+/// Bytes in memory as a disk. Only a write that would end past its room fails, and that one leaves
+/// the bytes as they were.
 ///
 /// It tells its contents and no images: nothing is claimed of what a crash leaves.
 #[derive(Drop)]
@@ -31,10 +32,12 @@ impl Model for SureDisk {
 }
 
 impl SureDisk {
-    /// A disk with these contents and room for that many bytes in all, which it takes from the allocator here.
+    /// A disk with these contents and room for that many bytes in all, which it takes from the
+    /// allocator here.
     pub fn new(alloc: Global, contents: Vec<u8>, room: u64) -> Result<SureDisk, AllocError>
         requires { vec_len contents ≤ room }
-        ensures { IfOk result (λ disk. disk ≡ record { contents = contents.items; room = room; faults = 0 }) }
+        ensures { IfOk result (λ disk.
+            disk ≡ record { contents = contents.items; room = room; faults = 0 }) }
     {
         let mut bytes = Vec::with_capacity(alloc, room as usize)?;
         bytes.extend_from_slice(&contents)?;

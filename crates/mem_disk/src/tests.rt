@@ -1,4 +1,4 @@
-use crate::{MemSink, MemSource, SureDisk};
+use crate::{MemDisk, MemSink, MemSource, SureDisk};
 use engine_base::{Disk, Fault, Sink, Source};
 use std::test::Fail;
 
@@ -82,5 +82,53 @@ fn a_borrowed_disk_is_a_disk(rt: HostRuntime) -> Result<(), Fail> {
         assert_eq!(rt; size_behind(&mut disk, at, bytes), answer, "at {at}");
     }
     assert_eq!(rt; disk.contents(), &b"cdab"[..]);
+    Ok(())
+}
+
+fn read_byte(disk: &mut MemDisk, at: u64) -> Result<(), Fault> {
+    if at < disk.contents().len() as u64 {
+        disk.read_at(at, &mut [0])?;
+    }
+    Ok(())
+}
+
+/// The image that each number picks, of one script of writes and syncs.
+#[test]
+fn a_crash_keeps_the_writes_that_it_is_told_to(rt: HostRuntime) -> Result<(), Fail> {
+    let contents = b"0123".to_vec(rt.alloc())?;
+    let mut disk = MemDisk::new(rt.alloc(), contents, 1024, Vec::new(rt.alloc()), None)?;
+    for (at, bytes) in [(1, &b"abc"[..]), (6, b"defg"), (0, b"XYZ")] {
+        assert_eq!(rt; disk.write_at(at, bytes), Ok(()));
+        if at == 1 {
+            assert_eq!(rt; disk.sync(), Ok(()));
+        }
+    }
+    let images: [(u64, &[u8]); 5] = [
+        (0, b"0abc\0\0\0\0\0\0"),
+        (1, b"XYZc\0\0defg"),
+        (2, b"0abc\0\0defg"),
+        (3, b"Xabc\0\0defg"),
+        (7, b"Xabc\0\0defg"),
+    ];
+    for (pick, bytes) in images {
+        let image = disk.crash(rt.alloc(), pick)?;
+        assert_eq!(rt; &image[..], bytes, "picks {pick}");
+    }
+    Ok(())
+}
+
+#[test]
+fn a_disk_counts_its_reads_and_fails_where_it_is_told_to(rt: HostRuntime) -> Result<(), Fail> {
+    let fails = [2].to_vec(rt.alloc())?;
+    let contents = b"012345".to_vec(rt.alloc())?;
+    let mut disk = MemDisk::new(rt.alloc(), contents, 1024, fails, Some(1))?;
+    for (at, answer) in [(3, Ok(())), (0, Err(Fault::Device)), (5, Ok(()))] {
+        assert_eq!(rt; read_byte(&mut disk, at), answer, "at {at}");
+    }
+    for (from, reads) in [(0, 2), (4, 1), (6, 0)] {
+        assert_eq!(rt; disk.reads(from), reads, "from {from}");
+    }
+    assert_eq!(rt; disk.write_at(0, b"z"), Ok(()));
+    assert_eq!(rt; disk.sync(), Err(Fault::Device));
     Ok(())
 }

@@ -1,4 +1,4 @@
-use Rattle.std.proofs.Common.{◌≡◌, ◌+◌, ◌≤◌, [], ◌∷◌, ◌++◌, List, Some, ap, ap₂, ◌∙◌, arith}
+use Rattle.std.proofs.Common.{◌≡◌, ◌+◌, [], ◌∷◌, ◌++◌, List, Some, ap, ◌∙◌, arith}
 use Rattle.std.proofs.lemmas.Grind.{common_steps}
 use Rattle.mem_disk.specs.MemDisk.{Event, MemState, synced, events_in, after_call}
 use Rattle.mem_disk.proofs.MemDiskLemmas.{mem, sync_step, goes_more, events_synced, keeps_synced, sync_durable, sync_seen, sync_images}
