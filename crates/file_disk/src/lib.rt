@@ -1,0 +1,6 @@
+//! A file of the system as a disk.
+#![tactic(auto)]
+
+mod disk;
+
+pub use disk::FileDisk;
