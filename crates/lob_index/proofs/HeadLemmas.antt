@@ -1,5 +1,5 @@
 -- The head behind another, where a LOB stands there.
-use Rattle.std.proofs.Common.{◌≡◌, ◌⊎◌, inl, inr, ℕ, zero, suc, ◌+◌, ◌-◌, ◌<◌, ◌≤◌, List, [], ◌∷◌, ◌++◌, length, map, take, drop, Option, Some, None, Result, Ok, IfSome, refl, sym, ap, ◌∙◌, subst, arith}
+use Rattle.std.proofs.Common.{◌≡◌, ◌⊎◌, inl, inr, ℕ, zero, suc, ◌+◌, ◌-◌, ◌<◌, ◌≤◌, List, [], ◌∷◌, ◌++◌, length, map, take, drop, Option, Some, None, Result, Ok, Err, IfOk, IfSome, refl, sym, ap, ◌∙◌, subst, arith}
 use Rattle.std.proofs.lemmas.List.{drop-drop, take-append-drop, length-take-le, length-drop}
 use Rattle.page_model.specs.Pages.{Pages, Address, address_at, null_address, AreWhole}
 use Rattle.page_model.specs.Lists.{IsNodePlace, IsWalk, first_of, or_null}
@@ -82,6 +82,7 @@ first_there pages lob is = (is.heads.first ∙ first_null (map head_place lob.pi
     allowed [] same steady = tt
     allowed (z ∷ zs) same steady = record { fits = head_fits pages lob [] z zs is same; near = steady.0 }
 
+-- the link in the i-th head is the next head's address or null, and that one may follow it
 pub next_there : (pages : Pages) (lob : Lob) (i : ℕ) (a : Address) → IsLob pages lob → Some a ≡ nth i (map head_place lob.pieces)
     → (address_at pages a.page (a.at + 6) ≡ or_null (nth (i + 1) (map head_place lob.pieces))) × IfSome (nth (i + 1) (map head_place lob.pieces)) (IsHeadFor (length pages) (i + 1) a.page)
 next_there pages lob i a is here =
@@ -126,6 +127,13 @@ pub head_read : (link : Option Addr) (told : Option Pages) (count from at k page
 head_read link told count from at k page pages x few whole is value place there =
     let r : Result (Option Addr) Fault = Ok link in
     link_read r told count from at pages x few is value (node_place link count k page place) (node_there x count k page (same_count x (length pages) count k page whole.many there.1)) there.0
+
+-- the same of a call's answer
+pub answer_read : (r : Result (Option Addr) Fault) (told : Option Pages) (count from at k page : ℕ) (pages : Pages) (x : Option Address) → count < 4_294_967_296 → AreWhole pages count → told ≡ Some pages
+    → IfOk r (λ link. IfSome told (λ ps. or_null (link_of link) ≡ address_at ps from at)) → IfOk r (IsHeadLink count k page)
+    → (address_at pages from at ≡ or_null x) × IfSome x (IsHeadFor (length pages) k page) → IfOk r (λ link. link_of link ≡ x)
+answer_read (Ok link) told count from at k page pages x few whole is value place there = head_read link told count from at k page pages x few whole is value place there
+answer_read (Err f) told count from at k page pages x few whole is value place there = tt
 
 -- and reading it isn't refused
 pub head_plain : (r : Result (Option Addr) Fault) (told : Option Pages) (count from at k page : ℕ) (pages : Pages) (x : Option Address) → AreWhole pages count → told ≡ Some pages

@@ -1,5 +1,11 @@
 pub mod ReachLemmas
 pub mod HeadLemmas
+pub mod IndexLemmas
 pub mod NodeLemmas
 pub mod HonestLemmas
+pub mod UseLemmas
+pub mod PageLemmas
+pub mod RefillLemmas
+pub mod StepLemmas
+pub mod TakeLemmas
 pub mod TestLemmas

@@ -54,6 +54,7 @@ listed pages lob page loose all first is free =
     let Q : List Address → Type 0 = λ xs. IsList pages (free_base lob.page) xs in
     subst P first (subst Q free is.free)
 
+-- the first free node taken off the list is in no list of the LOB any more
 pub took : (pages : Pages) (lob : Lob) (page : ℕ) (told : Option Pages) (a node : Address) (rest : List Address) → lob.page ≡ page → IsLob pages lob → lob.free ≡ node ∷ rest → a ≡ node
     → Becomes told (λ new. ChangesList (free_base page) (a ∷ rest) rest pages new) → Becomes told (LoosesNode lob node rest pages)
 took pages lob page told a node rest first is free same becomes =
@@ -64,6 +65,7 @@ took pages lob page told a node rest first is free same becomes =
     let r = free_taken pages new lob node rest is free changes.list changes.outside in
     (new, becomes.1, record { lob' = r.0; outside = r.1; keeps = kept pages new lob r.1 })
 
+-- a node that is in no list, put in front of the free ones, is given back
 pub gave : (pages : Pages) (lob : Lob) (page : ℕ) (told : Option Pages) (node : Address) → lob.page ≡ page → IsLobBut pages lob (node ∷ [])
     → Becomes told (λ new. ChangesList (free_base page) (node ∷ lob.free) (node ∷ lob.free) pages new) → Becomes told (GivesNode lob node pages)
 gave pages lob page told node first is becomes =

@@ -1,5 +1,5 @@
 // The heads of a LOB's pieces, by their position.
-ghost use Rattle.std.specs.Prelude.{◌≡◌, ◌⊎◌, ◌+◌, ◌<◌, ◌≤◌, List, [], ◌∷◌, ◌++◌, map, Some, IfOk, IfErr, IfSome, IfNone, IsOk, Decides};
+ghost use Rattle.std.specs.Prelude.{◌≡◌, ◌⊎◌, ◌+◌, ◌<◌, ◌≤◌, ◌^◌, List, [], ◌∷◌, ◌++◌, map, Some, IfOk, IfErr, IfSome, IfNone, IsOk, Decides};
 ghost use Rattle.page_model.specs.Pages.{Pages, Address, address_at, page_bytes};
 ghost use Rattle.page_model.specs.Lists.{or_null};
 ghost use Rattle.page_model.specs.Steps.{MayUse, Uses};
@@ -8,20 +8,15 @@ ghost use Rattle.engine_base.specs.Addresses.{address_of};
 ghost use Rattle.file_lists.specs.Links.{link_of};
 ghost use Rattle.lob_model.specs.Pieces.{head_place};
 ghost use Rattle.lob_model.specs.Places.{MayTurn};
-ghost use Rattle.lob_model.specs.Lobs.{IfLob};
+ghost use Rattle.store_data.specs.Store.{Lob};
+ghost use Rattle.lob_model.specs.Lobs.{IfLob, IsLob};
+ghost use Rattle.lob_index.specs.declared.layout.TheConstants.{NEXT};
 ghost use Rattle.lob_pages.specs.Entries.{FitsPage};
 ghost use Rattle.lob_index.specs.Heads.{nth, IsHeadPlace, IsHeadLink, NamesEntry, IsOddHead, IsOddOnWalk};
 
-use engine_base::{Addr, Fault, NULL_PAGE, PAGE_BYTES, PageNo, Pages, read_address, strange};
-use lob_model::layout::{ENTRY, HEADS};
-
-// The last place in a page at which an entry fits.
-const LAST_PLACE: u16 = PAGE_BYTES as u16 - ENTRY;
-
-// Where the address of the first node stands in a base, and that of the next one in a node.
-const FIRST: u16 = 4;
-
-const NEXT: u16 = 6;
+use crate::layout::{FIRST, LAST_PLACE, NEXT};
+use engine_base::{Addr, Fault, NULL_PAGE, PageNo, Pages, read_address, strange};
+use lob_model::layout::HEADS;
 
 /// The entry of the piece behind k others, and None past the last piece. Walks along the list of
 /// heads, one read of 6 bytes each. Touches at most four pages besides the one that is named, since
@@ -50,6 +45,32 @@ pub fn head<P: Pages>(p: &mut P, page: PageNo, k: u32) -> Result<Option<Addr>, F
         found = head_at(p, node.page, node.at + NEXT, i + 1, node.page)?;
     }
     Ok(found)
+}
+
+/// The entry of the piece behind that of this head, which itself follows k others, and None behind
+/// the last piece. Whoever goes through a LOB piece by piece keeps the head's address and takes the
+/// next from there, so that each piece costs one read of 6 bytes. Touches no page but the head's.
+pub fn next_head<P: Pages>(p: &mut P, node: Addr, k: u32) -> Result<Option<Addr>, Fault>
+    requires node { FitsPage (P.state p.old).count (address_of node) }
+    requires position { k + 1 < 2 ^ 32 }
+    requires may { MayUse (node.page.0 ∷ []) 0 0 (P.state p.old) }
+    ensures value { (pages : Pages) (lob : Lob) → (P.state p.old).told ≡ Some pages
+        → IsLob pages lob → Some (address_of node) ≡ nth k (map head_place lob.pieces)
+        → IfOk result (λ link. link_of link ≡ nth (k + 1) (map head_place lob.pieces)) }
+    ensures place { IfOk result
+        (λ link. IfSome link (λ a. FitsPage (P.state p.old).count (address_of a))) }
+
+    // Strange names the address in the head's node, as it stood at the call.
+    ensures honest { IfErr result (IsHonest (IsOddHead (P.state p.old).told (P.state p.old).count
+        node.page.0 (node.at + NEXT) (k + 1) node.page.0)) }
+    ensures never { (pages : Pages) (lob : Lob) → (P.state p.old).told ≡ Some pages
+        → IsLob pages lob → Some (address_of node) ≡ nth k (map head_place lob.pieces)
+        → FailsPlainly result }
+    ensures cause { HasCause (P.state p.old).faults (P.state p.new).faults result }
+    ensures told { (P.state p.new).told ≡ (P.state p.old).told }
+    ensures uses { Uses P.state P.stays (node.page.0 ∷ []) 0 0 p.old p.new }
+{
+    head_at(p, node.page, node.at + NEXT, k + 1, node.page)
 }
 
 // The head whose address stands there, which follows k heads, of which the last stands in the page

@@ -1,6 +1,6 @@
-use Rattle.std.proofs.Common.{◌≡◌, sym, ◌∙◌, ap, subst, Option, Some, None, [], ◌∷◌}
+use Rattle.std.proofs.Common.{arith, refl, ◌≡◌, sym, ◌∙◌, ap, subst, Option, Some, None, [], ◌∷◌}
 use Rattle.page_model.specs.Pages.{Address}
-use Rattle.page_model.specs.Lists.{IsList}
+use Rattle.page_model.specs.Lists.{IsList, first_of}
 use Rattle.engine_base.specs.Addresses.{address_of}
 use Rattle.engine_base.specs.declared.addr.Addr.{Addr}
 use Rattle.file_lists.specs.Links.{link_of}
@@ -8,6 +8,7 @@ use Rattle.lob_model.specs.Places.{free_base}
 use Rattle.file_lists.specs.Near.{near_node}
 use Rattle.file_lists.proofs.NearLemmas.{may_node, node_few}
 use Rattle.lob_index.proofs.NodeLemmas.{listed, took, take_may, take_uses, reached}
+use Rattle.lob_index.proofs.IndexLemmas.{first_fits}
 use Rattle.lob_index.proofs.HonestLemmas.{honest_on, around_free}
 use Rattle.lob_index.proofs.nodes.take_free.Goals as goal
 
@@ -34,3 +35,12 @@ returns-clause-takes g c = λ node rest pages lob is first stands free.
 pub returns-in_err-remove-clause-honest : goal.returns-in_err-remove-clause-honest
 returns-in_err-remove-clause-honest g c =
     honest_on _ _ c.remove.result _ _ (around_free (g.P.Pages.state c.args.p.now) (g.P.Pages.state c.first.new.p) c.args.page.0 (address_of c.in-Some.node) c.first.ensures.told c.first.ensures.uses.count) c.remove.ensures.honest c.in_err-remove.was c.from_residual-in_err-remove.ensures
+
+pub returns-then-node-gt-LAST_PLACE-clause-never : goal.returns-then-node-gt-LAST_PLACE-clause-never
+returns-then-node-gt-LAST_PLACE-clause-never g c = λ pages lob is first stands.
+    let a = address_of c.in-Some.node in
+    let list = listed pages lob c.args.page.0 [] lob.free first stands refl in
+    let P : Option Addr → Type 0 = λ o. link_of o ≡ first_of lob.free in
+    let same : Some a ≡ first_of lob.free = subst P c.in-Some.is (c.in_ok-node.ensures.value pages lob.free is list) in
+    let fit = first_fits pages lob a stands (sym same) in
+    absurd (let t = c.if-node-gt-LAST_PLACE.true in omega (arith, fit, t))
