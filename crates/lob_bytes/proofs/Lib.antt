@@ -1,0 +1,13 @@
+pub mod ReadLemmas
+pub mod StepLemmas
+pub mod BeginLemmas
+pub mod FreeLemmas
+pub mod ChainLemmas
+pub mod TestLemmas
+pub mod DataLemmas
+pub mod UnseenLemmas
+pub mod GrowthLemmas
+pub mod TakeLemmas
+pub mod OwnLemmas
+pub mod LastLemmas
+pub mod FreeingLemmas

@@ -1,0 +1,5 @@
+pub mod Reads
+pub mod Begin
+pub mod Frees
+pub mod Growth
+pub mod Freeing
