@@ -1,0 +1,8 @@
+pub mod Found
+pub mod Links
+pub mod Along
+pub mod Releases
+pub mod Versions
+pub mod DataPages
+pub mod Pushes
+pub mod Pushings
