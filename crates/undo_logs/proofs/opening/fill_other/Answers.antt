@@ -1,0 +1,9 @@
+use Rattle.std.proofs.Common.{List, [], ◌∷◌, subst}
+use Rattle.page_model.specs.Tables.{Field, SetsFields}
+use Rattle.undo_logs.proofs.OpenLemmas.{laid_out}
+use Rattle.undo_logs.proofs.opening.fill_other.Goals as goal
+
+pub returns-clause-fields : goal.returns-clause-fields
+returns-clause-fields c =
+    let P : List Field → Type 0 = λ t. SetsFields 0 t (c.args.bytes.now ∷ []) (c.fill.new.bytes ∷ []) in
+    laid_out c.args.page.0 c.args.log.0 c.args.bytes.now c.fill.new.bytes c.fill_fields.new.bytes (subst P c.alone.ensures c.fill.ensures) c.fill_fields.ensures.sets

@@ -1,0 +1,10 @@
+pub mod Opens
+pub mod Puts
+pub mod Places
+pub mod Reads
+pub mod Changes
+pub mod Begins
+pub mod Pops
+pub mod Forward
+pub mod Drops
+pub mod Commits
