@@ -1,5 +1,4 @@
-// A disk in memory that keeps each of its calls, fails where it is told to, and tells what a crash
-// may leave.
+// A disk in memory: it keeps its calls, fails where it is told, and tells what a crash may leave.
 ghost use Rattle.std.specs.Prelude.{◌≡◌, ◌⊎◌, ◌+◌, ◌-◌, ◌*◌, ◌<◌, ◌≤◌, ◌^◌, ◌↔◌, ◌++◌, [], ◌∷◌, ℕ, List, Some, Option, length, max, vec_len, vec_capacity, Contains, IsTrue, IsOk, IsErr, IfOk, OnOk, OnErr};
 ghost use Rattle.std.proofs.Common.{inl};
 ghost use Rattle.engine_base.specs.Numbers.{raised};
@@ -23,11 +22,10 @@ pub(crate) struct Step {
     pub(crate) len: usize,
 }
 
-/// Bytes in memory as a disk, with a record of its calls in a room that is taken at once.
-///
-/// The calls with the listed numbers, from 1, fail; after so many writes all calls fail; and so
-/// does a call for whose record no room is left. Each call takes 64 bytes of it, a write its length
-/// and the growth of the size besides.
+/// Bytes in memory as a disk, with a record of its calls in a room that is taken at once. The calls
+/// with the listed numbers, from 1, fail; after so many writes all calls fail; and so does a call
+/// for whose record no room is left. Each call takes 64 bytes of it, a write its length and the
+/// growth of the size besides.
 #[derive(Drop)]
 pub struct MemDisk {
     base: Vec<u8>,
@@ -68,8 +66,7 @@ impl Model for MemDisk {
         (vec_capacity m.reads) (vec_capacity m.contents) };
 }
 
-// Whether a call whose record takes 64 bytes and so many more is listed, past the stop, or past the
-// room that is left.
+// Whether a call is listed, past the stop, or has a record of 64 bytes and so many more past room.
 fn refuses(
     fails: &[u64],
     call: u64,
@@ -160,10 +157,9 @@ impl MemDisk {
         &self.contents
     }
 
-    /// An image that a crash now may leave, of the size that a read finds and with zeros where
-    /// nothing stands. It has the last sync's bytes and of the writes since, by the rest of `pick`
-    /// at 4: 0 none, 1 all, 2 all but the last, 3 as 2 and the first half, rounded down, of the
-    /// last.
+    /// An image that a crash now may leave, of the size that a read finds, with zeros where nothing
+    /// stands. It has the last sync's bytes and of the writes since, by the rest of `pick` at 4: 0
+    /// none, 1 all, 2 all but the last, 3 as 2 and the first half, rounded down, of the last.
     pub fn crash(&self, alloc: Global, pick: u64) -> Result<Vec<u8>, AllocError>
         ensures image { IfOk result (λ c. IsImage self.now.base self.now.events c.items) }
         ensures picks { IfOk result (λ c. c.items ≡ crashed pick self.now.base self.now.events) }

@@ -12,6 +12,9 @@ mod system;
 
 pub use error::SpaceError;
 pub use laws::map_stays;
+pub use layout::{
+    ACTIVE_LOGS, COMMITS, COMMITTED_LOGS, NEXT_TRX_ID, PURGED_COMMITS, ROW_PAGES, SYSTEM,
+};
 pub use space::Space;
 pub use system::make_system;
 

@@ -6,7 +6,8 @@ use Rattle.page_model.specs.Pages.{Pages, field, Address}
 use Rattle.page_model.specs.Spans.{SetsField, SetsAddress}
 use Rattle.undo_model.specs.Data.{Log}
 use Rattle.undo_model.specs.LogLists.{Logs, IsLogs}
-use Rattle.undo_logs.specs.declared.layout.TheConstants.{STATE, COMMIT, NEXT, COMMITS, COMMITTED}
+use Rattle.page_space.specs.declared.layout.TheConstants.{COMMITS}
+use Rattle.undo_logs.specs.declared.layout.TheConstants.{STATE, COMMIT, NEXT, COMMITTED}
 
 -- the list of committed logs takes another one
 pub record CanCommit (l : Log) (count : ℕ) (pages : Pages) : Type 0 where

@@ -9,7 +9,7 @@ use Rattle.undo_model.specs.Data.{Part, Log}
 use Rattle.undo_model.specs.Logs.{IsLog, nodes_in}
 use Rattle.undo_model.specs.LogLists.{log_nodes, committed_base}
 use Rattle.store_parts.specs.Appends.{CanOpen}
-use Rattle.undo_logs.specs.declared.layout.TheConstants.{PURGED_COMMITS}
+use Rattle.page_space.specs.declared.layout.TheConstants.{PURGED_COMMITS}
 
 pub record CanDrop (l : Log) (pages : Pages) : Type 0 where
   pub stands : IsLog pages l

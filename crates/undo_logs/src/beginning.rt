@@ -9,16 +9,13 @@ ghost use Rattle.page_space.specs.Map.{IsSize, free_of};
 ghost use Rattle.undo_model.specs.Logs.{first_start};
 ghost use Rattle.undo_logs.specs.Begins.{first_fields, StartsLog, CanBegin, BeginsLog};
 
-use crate::layout::{
-    ACTIVE, ACTIVE_LOGS, END, FIRST_START, LAST, LOG_NODE, PAGE_NODE, PAGES_BASE, STATE, SYSTEM,
-    TRX,
-};
+use crate::layout::{ACTIVE, END, FIRST_START, LAST, LOG_NODE, PAGE_NODE, PAGES_BASE, STATE, TRX};
 use byteorder::{BigEndian, ByteOrder};
 use engine_base::FieldValue::{Four, One, Two};
 use engine_base::{Addr, Fault, NULL_PAGE, PageHeader, PageNo, PageType, Pages, fill_fields};
 use file_lists::add_first;
 use lob_pages::TrxId;
-use page_space::Space;
+use page_space::{ACTIVE_LOGS, SYSTEM, Space};
 
 // Writes a number over `width` bytes, the highest first.
 fn put_number(bytes: &mut [u8], at: u16, width: u8, value: u64)

@@ -11,12 +11,10 @@ ghost use Rattle.undo_model.specs.LogSteps.{marked_committed};
 ghost use Rattle.undo_logs.specs.Commits.{CanCommit, MarksCommitted};
 
 use crate::forward::record_from;
-use crate::layout::{
-    ACTIVE_LOGS, COMMIT, COMMITS, COMMITTED, COMMITTED_LOGS, FIRST_START, LOG_NODE, NEXT, STATE,
-    SYSTEM,
-};
+use crate::layout::{COMMIT, COMMITTED, FIRST_START, LOG_NODE, NEXT, STATE};
 use engine_base::{Addr, Fault, PageNo, Pages, read_field, strange, write_address, write_field};
 use file_lists::{add_last, remove};
+use page_space::{ACTIVE_LOGS, COMMITS, COMMITTED_LOGS, SYSTEM};
 
 // Writes of a log that it is committed, with this number, and which record is to be purged first.
 // Three writes of 15 bytes.

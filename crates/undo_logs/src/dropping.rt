@@ -10,14 +10,14 @@ ghost use Rattle.undo_model.specs.Data.{Log, Part};
 ghost use Rattle.undo_model.specs.LogLists.{log_nodes, committed_base, pages_in};
 ghost use Rattle.undo_logs.specs.Changes.{with_pages};
 ghost use Rattle.undo_logs.specs.Drops.{CanDrop, CanEnd, has_part};
-ghost use Rattle.undo_logs.specs.declared.layout.TheConstants.{PURGED_COMMITS};
+ghost use Rattle.page_space.specs.declared.layout.TheConstants.{PURGED_COMMITS};
 
 use crate::appending::newest_page;
 use crate::cutting::drop_node;
-use crate::layout::{COMMITTED_LOGS, LOG_NODE, PURGED_COMMITS, SYSTEM};
+use crate::layout::LOG_NODE;
 use engine_base::{Addr, Fault, PageNo, Pages, read_field, strange, write_field};
 use file_lists::remove;
-use page_space::Space;
+use page_space::{COMMITTED_LOGS, PURGED_COMMITS, SYSTEM, Space};
 
 // Takes the log, of which the first page is left, out of the list of committed ones, gives the page
 // back, and counts the log as purged.

@@ -22,7 +22,7 @@
 //! | 52 | 4 | the log's first page |
 //! | 56 | | records |
 
-use engine_base::{HEADER_BYTES, PAGE_BYTES, PageNo};
+use engine_base::{HEADER_BYTES, PAGE_BYTES};
 
 pub const PAGE_NODE: u16 = HEADER_BYTES;
 
@@ -72,14 +72,3 @@ pub const ACTIVE: u8 = 1;
 pub const COMMITTED: u8 = 2;
 
 pub const PURGING: u8 = 3;
-
-/// The system page, with the counters and the bases of both lists of logs.
-pub const SYSTEM: PageNo = PageNo(0);
-
-pub const COMMITS: u16 = 46;
-
-pub const PURGED_COMMITS: u16 = COMMITS + 8;
-
-pub const ACTIVE_LOGS: u16 = 82;
-
-pub const COMMITTED_LOGS: u16 = ACTIVE_LOGS + 16;

@@ -16,10 +16,10 @@ ghost use Rattle.undo_logs.specs.Changes.{without_newest};
 ghost use Rattle.undo_logs.specs.Pops.{has_record, IsListed, GivesBoth};
 
 use crate::cutting::{cut_end, drop_newest};
-use crate::layout::{ACTIVE_LOGS, LAST, LOG_NODE, OTHER_START, PREVIOUS, SYSTEM};
+use crate::layout::{LAST, LOG_NODE, OTHER_START, PREVIOUS};
 use engine_base::{Addr, Fault, NULL_PAGE, PageNo, Pages, read_address, strange};
 use file_lists::remove;
-use page_space::Space;
+use page_space::{ACTIVE_LOGS, SYSTEM, Space};
 use undo_records::{is_place, is_previous};
 
 // The address of the log's last record.

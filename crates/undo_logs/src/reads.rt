@@ -14,9 +14,10 @@ ghost use Rattle.undo_records.specs.Records.{record_of};
 ghost use Rattle.undo_logs.specs.Reads.{PointsTo, number_of, newest_pointer, IsDue, HasNext, IsLengthThere, IsNoRecord, page_number, oldest_page};
 
 use crate::appending::pointer;
-use crate::layout::{COMMITTED_LOGS, LAST, LOG_NODE, NEXT, PURGING, STATE, SYSTEM};
+use crate::layout::{LAST, LOG_NODE, NEXT, PURGING, STATE};
 use engine_base::{Addr, Fault, NULL_PAGE, PageNo, Pages, read_address, read_field, strange};
 use file_lists::first;
+use page_space::{COMMITTED_LOGS, SYSTEM};
 use undo_records::{RecordError, RollPtr, UndoRecord, is_place, read};
 
 // The pointer to the record at the address that was read there, or none.
