@@ -230,3 +230,8 @@ gives t0 t1 t2 pages page b b' free is map there used byte_is change same w1 w2 
     let b1 = told_step _ t0 t1 pages is w1 in
     let b2 = told_step _ t1 t2 b1.0 b1.1 w2 in
     (b2.0, b2.1, given pages b1.0 b2.0 page b b' free map there used byte_is change same b1.2 b2.2)
+
+-- the bit of a byte that was read at the page's place is the page's
+pub used_told : (told : Option Pages) (page n : ℕ) (b : Bool) → b ≡ (bit_at n (page % 8) == 1) → IfSome told (λ ps. n ≡ field ps 0 (place_of page) 1) → IfSome told (λ ps. b ≡ (bit ps page == 1))
+used_told None page n b is value = tt
+used_told (Some ps) page n b is value = is ∙ ap (λ (m : ℕ). bit_at m (page % 8) == 1) (value ∙ field-byte ps 0 (place_of page))

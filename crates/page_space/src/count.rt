@@ -1,15 +1,15 @@
 // The count of free pages, and the map's lowest free page, read and judged.
-ghost use Rattle.std.specs.Prelude.{◌≡◌, ℕ, ◌*◌, ◌/◌, ◌<◌, ◌≤◌, [], ◌∷◌, length, slice_index, IfOk, IfErr, IfSome, IfNone};
+ghost use Rattle.std.specs.Prelude.{◌≡◌, ℕ, ◌*◌, ◌/◌, ◌<◌, ◌≤◌, ◌==◌, [], ◌∷◌, length, slice_index, IfOk, IfErr, IfSome, IfNone};
 ghost use Rattle.page_model.specs.Steps.{MayUse, Uses};
 ghost use Rattle.engine_base.specs.Faults.{HasCause, FailsPlainly, IsHonest};
 ghost use Rattle.page_space.specs.declared.layout.TheConstants.{MAP_BYTES};
 ghost use Rattle.page_space.specs.Bits.{AreOnes, IsLowestZero};
-ghost use Rattle.page_space.specs.Map.{IsSize, IfMapped, IsLowestFree, IsUsed, free_of};
+ghost use Rattle.page_space.specs.Map.{IsSize, IfMapped, IsLowestFree, IsUsed, bit, free_of};
 ghost use Rattle.page_space.specs.Answers.{IsOddCount};
 
-use crate::bits::lowest_zero;
+use crate::bits::{is_set, lowest_zero};
 use crate::layout::{FREE_PAGES, MAP, MAP_BYTES, SYSTEM};
-use engine_base::{Fault, Pages, read_field, strange};
+use engine_base::{Fault, PageNo, Pages, read_field, strange};
 
 /// How many pages are free. Strange where that is more than there are.
 pub fn free_pages<P: Pages>(p: &mut P) -> Result<u32, Fault>
@@ -30,6 +30,22 @@ pub fn free_pages<P: Pages>(p: &mut P) -> Result<u32, Fault>
         return strange(SYSTEM, FREE_PAGES, free);
     }
     Ok(free as u32)
+}
+
+/// Whether the map says that the page is used.
+pub fn is_used<P: Pages>(p: &mut P, page: PageNo) -> Result<bool, Fault>
+    requires size { IsSize (P.state p.old).count }
+    requires page { page.0 < (P.state p.old).count }
+    requires may { MayUse (0 ∷ []) 0 0 (P.state p.old) }
+    ensures value { IfOk result (λ used. IfSome (P.state p.old).told (λ pages.
+        used ≡ (bit pages page.0 == 1))) }
+    ensures told { (P.state p.new).told ≡ (P.state p.old).told }
+    ensures uses { Uses P.state P.stays (0 ∷ []) 0 0 p.old p.new }
+    ensures cause { HasCause (P.state p.old).faults (P.state p.new).faults result }
+    ensures plain { FailsPlainly result }
+{
+    let byte = read_field(p, SYSTEM, MAP + (page.0 / 8) as u16, 1)?;
+    Ok(is_set(byte as u8, page.0 % 8))
 }
 
 /// A free page, and the byte of the map that has its bit.

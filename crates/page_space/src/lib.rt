@@ -10,6 +10,7 @@ mod layout;
 mod space;
 mod system;
 
+pub use count::is_used;
 pub use error::SpaceError;
 pub use laws::map_stays;
 pub use layout::{
