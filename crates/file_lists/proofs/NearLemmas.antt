@@ -10,7 +10,7 @@ use Rattle.page_model.proofs.StepLemmas.{IsReached, may_reach, within_left, with
 use Rattle.engine_base.specs.Addresses.{address_of}
 use Rattle.engine_base.specs.declared.addr.Addr.{Addr}
 use Rattle.file_lists.specs.Links.{link_of}
-use Rattle.file_lists.specs.Near.{page_there, near_front, near_back, near_node}
+use Rattle.file_lists.specs.Near.{page_there, near_front, near_back, near_node, near_behind, near_before}
 
 -- ---- how many
 
@@ -35,6 +35,14 @@ node_few s node = few_told s.told (λ pages. page_there s.count (field pages nod
     (λ pages. let a = page_there s.count (field pages node.page node.at 4) in let b = page_there s.count (field pages node.page (node.at + 6) 4) in
     omega (arith, length-append a b, few_there s.count (field pages node.page node.at 4), few_there s.count (field pages node.page (node.at + 6) 4)))
 
+-- one page at most is near behind a node
+pub behind_few : (s : PageState) (node : Address) → length (known (near_behind s node)) ≤ 1
+behind_few s node = few_told s.told (λ pages. page_there s.count (field pages node.page (node.at + 6) 4)) 1 (λ pages. few_there s.count (field pages node.page (node.at + 6) 4))
+
+-- and before it
+pub before_few : (s : PageState) (node : Address) → length (known (near_before s node)) ≤ 1
+before_few s node = few_told s.told (λ pages. page_there s.count (field pages node.page node.at 4)) 1 (λ pages. few_there s.count (field pages node.page node.at 4))
+
 -- the bounds are enough for a caller that counts by them
 pub may_front : (s : PageState) (base : Address) (named : List ℕ) (bytes : ℕ) → MayUse named 1 bytes s → MayReach (near_front s base) named 1 bytes s
 may_front s base named bytes = may_reach (near_front s base) named 1 bytes s (front_few s base)
@@ -46,6 +54,14 @@ may_back s base named bytes = may_reach (near_back s base) named 1 bytes s (back
 -- and for a node
 pub may_node : (s : PageState) (node : Address) (named : List ℕ) (bytes : ℕ) → MayUse named 2 bytes s → MayReach (near_node s node) named 2 bytes s
 may_node s node named bytes = may_reach (near_node s node) named 2 bytes s (node_few s node)
+
+-- for the first node
+pub may_behind : (s : PageState) (node : Address) (named : List ℕ) (bytes : ℕ) → MayUse named 1 bytes s → MayReach (near_behind s node) named 1 bytes s
+may_behind s node named bytes = may_reach (near_behind s node) named 1 bytes s (behind_few s node)
+
+-- and for the last
+pub may_before : (s : PageState) (node : Address) (named : List ℕ) (bytes : ℕ) → MayUse named 1 bytes s → MayReach (near_before s node) named 1 bytes s
+may_before s node named bytes = may_reach (near_before s node) named 1 bytes s (before_few s node)
 
 -- ---- which
 
@@ -110,3 +126,15 @@ front_behind s node base told n x = reached_back (λ pages. page_there s.count (
 pub back_before : (s : PageState) (node : ℕ) (base : Address) (told : Option Pages) (n : ℕ) (x : Option Addr) → told ≡ s.told → n ≡ s.count → IfSome told (λ pages. or_null (link_of x) ≡ address_at pages base.page (base.at + 10))
     → IfSome x (λ a. IsNodePlace n (address_of a)) → IsReached (near_back s base) (node ∷ base.page ∷ []) (on_place base (link_of x)).page
 back_before s node base told n x = reached_on (λ pages. page_there s.count (field pages base.page (base.at + 10) 4)) (node ∷ base.page ∷ []) s.count base.page (base.at + 10) base (second_named node base.page) (λ pages n is. is) s.told told n x
+
+-- the node behind the first
+pub first_behind : (s : PageState) (node base : Address) (told : Option Pages) (n : ℕ) (x : Option Addr) → told ≡ s.told → n ≡ s.count → IfSome told (λ pages. or_null (link_of x) ≡ address_at pages node.page (node.at + 6))
+    → IfSome x (λ a. IsNodePlace n (address_of a)) → IsReached (near_behind s node) (node.page ∷ base.page ∷ []) (back_place base (link_of x)).page
+first_behind s node base told n x =
+    reached_back (λ pages. page_there s.count (field pages node.page (node.at + 6) 4)) (node.page ∷ base.page ∷ []) s.count node.page (node.at + 6) base (second_named node.page base.page) (λ pages n is. is) s.told told n x
+
+-- the node before the last
+pub last_before : (s : PageState) (node base : Address) (told : Option Pages) (n : ℕ) (x : Option Addr) → told ≡ s.told → n ≡ s.count → IfSome told (λ pages. or_null (link_of x) ≡ address_at pages node.page node.at)
+    → IfSome x (λ a. IsNodePlace n (address_of a)) → IsReached (near_before s node) (node.page ∷ base.page ∷ []) (on_place base (link_of x)).page
+last_before s node base told n x =
+    reached_on (λ pages. page_there s.count (field pages node.page node.at 4)) (node.page ∷ base.page ∷ []) s.count node.page node.at base (second_named node.page base.page) (λ pages n is. is) s.told told n x

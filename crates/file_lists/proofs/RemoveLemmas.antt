@@ -1,5 +1,5 @@
 -- A node taken out, call by call.
-use Rattle.std.proofs.Common.{◌≡◌, ℕ, ◌+◌, ◌-◌, List, [], ◌∷◌, ◌++◌, length, Option, Some, subst, arith}
+use Rattle.std.proofs.Common.{◌≡◌, ℕ, ◌+◌, ◌-◌, List, [], ◌∷◌, ◌++◌, length, Option, Some, refl, ap, subst, arith}
 use Rattle.std.proofs.lemmas.List.{length-append}
 use Rattle.page_model.specs.Pages.{Pages, Address}
 use Rattle.page_model.specs.Spans.{SetsAddress, SetsField}
@@ -31,6 +31,26 @@ module _ {T : Type 0} {state : T → PageState} {stays : T → T → Type 0} (ad
   pub uses6 : stays s s → (a b d e f i : T) → Uses state stays (base ∷ []) 0 0 s a → Uses state stays (node ∷ []) 0 0 a b → Uses state stays (node ∷ []) 0 0 b d → Uses state stays (q ∷ []) 0 14 d e → Uses state stays (r ∷ []) 0 14 e f → Uses state stays (base ∷ []) 0 12 f i → Reaches state stays near (node ∷ base ∷ []) 2 40 s i
   uses6 still a b d e f i u1 u2 u3 u4 u5 u6 = uses_in add near (node ∷ base ∷ []) (base ∷ []) 2 28 12 s f i (within_two node base []) (uses5 still a b d e f u1 u2 u3 u4 u5) u6
 
+-- the first node, and the last one, taken out: behind the reads the base is written, and the one neighbour
+module _ {T : Type 0} {state : T → PageState} {stays : T → T → Type 0} (add : (a b c : T) → stays a b → stays b c → stays a c) (near : Option (List ℕ)) (node base q : ℕ) (to_q : IsReached near (node ∷ base ∷ []) q) (s : T) where
+  pub first3 : stays s s → (a b d : T) → Uses state stays (base ∷ []) 0 0 s a → Uses state stays (node ∷ []) 0 0 a b → Uses state stays (base ∷ []) 0 14 b d → Reaches state stays near (node ∷ base ∷ []) 0 14 s d
+  first3 still a b d u1 u2 u3 = uses_in add near (node ∷ base ∷ []) (base ∷ []) 0 0 14 s b d (within_two node base []) (uses2 add near node base s still a b u1 u2) u3
+
+  pub first4 : stays s s → (a b d e : T) → Uses state stays (base ∷ []) 0 0 s a → Uses state stays (node ∷ []) 0 0 a b → Uses state stays (base ∷ []) 0 14 b d → Uses state stays (q ∷ []) 0 14 d e → Reaches state stays near (node ∷ base ∷ []) 1 28 s e
+  first4 still a b d e u1 u2 u3 u4 = uses_near add near (node ∷ base ∷ []) q 0 14 14 s d e to_q (first3 still a b d u1 u2 u3) u4
+
+  pub first5 : stays s s → (a b d e f : T) → Uses state stays (base ∷ []) 0 0 s a → Uses state stays (node ∷ []) 0 0 a b → Uses state stays (base ∷ []) 0 14 b d → Uses state stays (q ∷ []) 0 14 d e → Uses state stays (base ∷ []) 0 12 e f → Reaches state stays near (node ∷ base ∷ []) 1 40 s f
+  first5 still a b d e f u1 u2 u3 u4 u5 = uses_in add near (node ∷ base ∷ []) (base ∷ []) 1 28 12 s e f (within_two node base []) (first4 still a b d e u1 u2 u3 u4) u5
+
+  pub last3 : stays s s → (a b d : T) → Uses state stays (base ∷ []) 0 0 s a → Uses state stays (node ∷ []) 0 0 a b → Uses state stays (q ∷ []) 0 14 b d → Reaches state stays near (node ∷ base ∷ []) 1 14 s d
+  last3 still a b d u1 u2 u3 = uses_near add near (node ∷ base ∷ []) q 0 0 14 s b d to_q (uses2 add near node base s still a b u1 u2) u3
+
+  pub last4 : stays s s → (a b d e : T) → Uses state stays (base ∷ []) 0 0 s a → Uses state stays (node ∷ []) 0 0 a b → Uses state stays (q ∷ []) 0 14 b d → Uses state stays (base ∷ []) 0 14 d e → Reaches state stays near (node ∷ base ∷ []) 1 28 s e
+  last4 still a b d e u1 u2 u3 u4 = uses_in add near (node ∷ base ∷ []) (base ∷ []) 1 14 14 s d e (within_two node base []) (last3 still a b d u1 u2 u3) u4
+
+  pub last5 : stays s s → (a b d e f : T) → Uses state stays (base ∷ []) 0 0 s a → Uses state stays (node ∷ []) 0 0 a b → Uses state stays (q ∷ []) 0 14 b d → Uses state stays (base ∷ []) 0 14 d e → Uses state stays (base ∷ []) 0 12 e f → Reaches state stays near (node ∷ base ∷ []) 1 40 s f
+  last5 still a b d e f u1 u2 u3 u4 u5 = uses_in add near (node ∷ base ∷ []) (base ∷ []) 1 28 12 s e f (within_two node base []) (last4 still a b d e u1 u2 u3 u4) u5
+
 -- links led past a node, and the count lowered by one, take the node out of its list
 pub removes : (t3 t4 t5 t6 : Option Pages) (pages : Pages) (base node : Address) (xs ys : List Address) (x y : Option Address) (n : ℕ)
     → t3 ≡ Some pages → IsList pages base (xs ++ node ∷ ys) → x ≡ last_of xs → y ≡ first_of ys → n ≡ length (xs ++ node ∷ ys)
@@ -48,3 +68,13 @@ removes t3 t4 t5 t6 pages base node xs ys x y n is list before behind len w1 w2 
     let R : ℕ → Type 0 = λ m. SetsField base.page base.at 4 m b2.0 b3.0 in
     let r = removed pages b1.0 b2.0 b3.0 base node xs ys list (subst P2 behind (subst P1 before b1.2)) (subst Q2 before (subst Q1 behind b2.2)) (subst R fewer b3.2) in
     (b3.0, b3.1, record { list = r.0; outside = r.1 })
+
+all_of : (xs : List Address) → xs ++ [] ≡ xs
+all_of [] = refl
+all_of (x ∷ xs) = ap (λ (ys : List Address). x ∷ ys) (all_of xs)
+
+-- what is left before the last node is the list then
+pub nothing_behind : (told : Option Pages) (pages : Pages) (base node : Address) (xs : List Address) → Becomes told (ChangesList base (xs ++ node ∷ []) (xs ++ []) pages) → Becomes told (ChangesList base (xs ++ node ∷ []) xs pages)
+nothing_behind told pages base node xs is =
+    let P : List Address → Type 0 = λ ys. Becomes told (ChangesList base (xs ++ node ∷ []) ys pages) in
+    subst P (all_of xs) is

@@ -3,6 +3,7 @@
 --     page_there      the page of that number, where there is one
 --     near_front, near_back, near_node      what adding a node at either end, and taking one out,
 --                                           touch
+--     near_behind, near_before      what taking out the first and the last node touches
 use Rattle.std.specs.Prelude.{ℕ, ◌+◌, nat_lt, cond, List, [], ◌∷◌, ◌++◌, Option}
 use Rattle.std.specs.Option.{option_map}
 use Rattle.page_model.specs.Pages.{field, Address}
@@ -27,3 +28,13 @@ abbrev pub near_node : PageState → Address → Option (List ℕ)
 near_node s node = option_map (λ pages.
     page_there s.count (field pages node.page node.at 4)
     ++ page_there s.count (field pages node.page (node.at + NEXT) 4)) s.told
+
+-- the page of the node behind
+abbrev pub near_behind : PageState → Address → Option (List ℕ)
+near_behind s node = option_map (λ pages.
+    page_there s.count (field pages node.page (node.at + NEXT) 4)) s.told
+
+-- the page of the node before
+abbrev pub near_before : PageState → Address → Option (List ℕ)
+near_before s node = option_map (λ pages.
+    page_there s.count (field pages node.page node.at 4)) s.told

@@ -6,6 +6,7 @@
 --                         out
 --     IsOddAtFront, IsOddAtBack, IsOddAround      what adding a node at either end, and taking one
 --          out, may name
+--     IsOddBehind, IsOddBefore      what taking out the first and the last node may name
 use Rattle.std.specs.Prelude.{◌≡◌, ◌⊎◌, ℕ, ◌+◌, ◌<◌, IfSome, Option}
 use Rattle.page_model.specs.Pages.{Pages, field, Address, address_at, null_page}
 use Rattle.page_model.specs.Lists.{IsLink}
@@ -68,3 +69,13 @@ IsOddAround s base node page at value =
     IsBare s.told base page at value
     ⊎ (IsOddLink s.told s.count node.page node.at page at value
     ⊎ IsOddLink s.told s.count node.page (node.at + NEXT) page at value)
+
+abbrev pub IsOddBehind : PageState → Address → Address → Oddity
+IsOddBehind s base node page at value =
+    IsBare s.told base page at value
+    ⊎ IsOddLink s.told s.count node.page (node.at + NEXT) page at value
+
+abbrev pub IsOddBefore : PageState → Address → Address → Oddity
+IsOddBefore s base node page at value =
+    IsBare s.told base page at value
+    ⊎ IsOddLink s.told s.count node.page node.at page at value

@@ -7,8 +7,8 @@ ghost use Rattle.page_model.specs.Steps.{MayReach, Reaches, Becomes, write_head}
 ghost use Rattle.engine_base.specs.Faults.{HasCause, FailsPlainly, IsHonest};
 ghost use Rattle.engine_base.specs.Addresses.{address_of};
 ghost use Rattle.file_lists.specs.Changes.{IsElsewhere, ChangesList};
-ghost use Rattle.file_lists.specs.Near.{near_front, near_back, near_node};
-ghost use Rattle.file_lists.specs.Strange.{IsOddAtFront, IsOddAtBack, IsOddAround};
+ghost use Rattle.file_lists.specs.Near.{near_front, near_back, near_node, near_behind, near_before};
+ghost use Rattle.file_lists.specs.Strange.{IsOddAtFront, IsOddAtBack, IsOddAround, IsOddBehind, IsOddBefore};
 
 use crate::layout::{FIRST, LAST, MAX_LENGTH, NEXT};
 use crate::links::{point_back, point_on, read_link, write_link};
@@ -119,6 +119,78 @@ pub fn remove<P: Pages>(p: &mut P, base: Addr, node: Addr) -> Result<(), Fault>
     let behind = read_link(p, node.page, node.at + NEXT)?;
     point_on(p, base, before, behind)?;
     point_back(p, base, behind, before)?;
+    write_field(p, base.page, base.at, 4, len - 1)?;
+    Ok(())
+}
+
+/// Takes out the node that is the first of the list. Its own bytes stay. Besides the pages named it
+/// touches that of the node behind, and it writes 16 bytes in three writes.
+pub fn remove_first<P: Pages>(p: &mut P, base: Addr, node: Addr) -> Result<(), Fault>
+    requires base { IsBasePlace (P.state p.old).count (address_of base) }
+    requires node { IsNodePlace (P.state p.old).count (address_of node) }
+    requires may { MayReach (near_behind (P.state p.old) (address_of node))
+        (node.page.0 ∷ base.page.0 ∷ []) 1 (16 + 3 * write_head) (P.state p.old) }
+    ensures removes { (pages : Pages) (behind : List Address)
+        → (P.state p.old).told ≡ Some pages
+        → IsList pages (address_of base) (address_of node ∷ behind)
+        → OnOk result (Becomes (P.state p.new).told
+        (ChangesList (address_of base) (address_of node ∷ behind) behind pages)) }
+
+    // Strange names the length, or the address behind the node, as either stood at the call.
+    ensures honest { IfErr result (IsHonest
+        (IsOddBehind (P.state p.old) (address_of base) (address_of node))) }
+    ensures never { (pages : Pages) (behind : List Address)
+        → (P.state p.old).told ≡ Some pages
+        → IsList pages (address_of base) (address_of node ∷ behind)
+        → FailsPlainly result }
+    ensures cause { HasCause (P.state p.old).faults (P.state p.new).faults result }
+
+    ensures uses { Reaches P.state P.stays (near_behind (P.state p.old) (address_of node))
+        (node.page.0 ∷ base.page.0 ∷ []) 1 (16 + 3 * write_head) p.old p.new }
+{
+    let len = read_field(p, base.page, base.at, 4)?;
+    if len == 0 {
+        return strange(base.page, base.at, len);
+    }
+    let behind = read_link(p, node.page, node.at + NEXT)?;
+    point_on(p, base, None, behind)?;
+    point_back(p, base, behind, None)?;
+    write_field(p, base.page, base.at, 4, len - 1)?;
+    Ok(())
+}
+
+/// Takes out the node that is the last of the list. Its own bytes stay. Besides the pages named it
+/// touches that of the node before, and it writes 16 bytes in three writes.
+pub fn remove_last<P: Pages>(p: &mut P, base: Addr, node: Addr) -> Result<(), Fault>
+    requires base { IsBasePlace (P.state p.old).count (address_of base) }
+    requires node { IsNodePlace (P.state p.old).count (address_of node) }
+    requires may { MayReach (near_before (P.state p.old) (address_of node))
+        (node.page.0 ∷ base.page.0 ∷ []) 1 (16 + 3 * write_head) (P.state p.old) }
+    ensures removes { (pages : Pages) (before : List Address)
+        → (P.state p.old).told ≡ Some pages
+        → IsList pages (address_of base) (before ++ address_of node ∷ [])
+        → OnOk result (Becomes (P.state p.new).told
+        (ChangesList (address_of base) (before ++ address_of node ∷ []) before pages)) }
+
+    // Strange names the length, or the address before the node, as either stood at the call.
+    ensures honest { IfErr result (IsHonest
+        (IsOddBefore (P.state p.old) (address_of base) (address_of node))) }
+    ensures never { (pages : Pages) (before : List Address)
+        → (P.state p.old).told ≡ Some pages
+        → IsList pages (address_of base) (before ++ address_of node ∷ [])
+        → FailsPlainly result }
+    ensures cause { HasCause (P.state p.old).faults (P.state p.new).faults result }
+
+    ensures uses { Reaches P.state P.stays (near_before (P.state p.old) (address_of node))
+        (node.page.0 ∷ base.page.0 ∷ []) 1 (16 + 3 * write_head) p.old p.new }
+{
+    let len = read_field(p, base.page, base.at, 4)?;
+    if len == 0 {
+        return strange(base.page, base.at, len);
+    }
+    let before = read_link(p, node.page, node.at)?;
+    point_on(p, base, before, None)?;
+    point_back(p, base, None, before)?;
     write_field(p, base.page, base.at, 4, len - 1)?;
     Ok(())
 }

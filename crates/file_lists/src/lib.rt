@@ -9,7 +9,7 @@ mod links;
 mod reads;
 
 pub use bases::make_base;
-pub use changes::{add_first, add_last, remove};
+pub use changes::{add_first, add_last, remove, remove_first, remove_last};
 pub use reads::{first, last, len, next};
 
 #[cfg(test)]

@@ -3,7 +3,7 @@ ghost use Rattle.page_model.specs.Lists.{IsNodePlace};
 ghost use Rattle.mem_disk.specs.MemPages.{page_state};
 ghost use Rattle.engine_base.specs.Addresses.{address_of};
 
-use crate::{add_first, add_last, first, last, len, next, remove};
+use crate::{add_first, add_last, first, last, len, next, remove, remove_first, remove_last};
 use engine_base::{Addr, Fault, PageNo, Pages, write_field};
 use mem_disk::MemPages;
 use std::test::Fail;
@@ -18,6 +18,8 @@ enum Call {
     AddFirst,
     AddLast,
     Remove,
+    RemoveFirst,
+    RemoveLast,
 }
 
 // A node of the tests: 1 and 2 lie side by side, and 3 at the end of its page.
@@ -43,6 +45,8 @@ fn made(p: &mut MemPages, call: Call, n: u8) -> Result<(), Fault>
         Call::AddFirst => add_first(p, BASE, node(n)),
         Call::AddLast => add_last(p, BASE, node(n)),
         Call::Remove => remove(p, BASE, node(n)),
+        Call::RemoveFirst => remove_first(p, BASE, node(n)),
+        Call::RemoveLast => remove_last(p, BASE, node(n)),
     }
 }
 
@@ -77,6 +81,13 @@ fn a_list_has_these_bytes_after_each_change(rt: HostRuntime) -> Result<(), Fail>
         (Call::AddLast, 2, 1, [two, two]),
         (Call::AddLast, 1, 2, [two, one]),
         (Call::Remove, 1, 1, [two, two]),
+        (Call::AddFirst, 3, 2, [three, two]),
+        (Call::AddLast, 1, 3, [three, one]),
+        (Call::RemoveFirst, 3, 2, [two, one]),
+        (Call::RemoveLast, 1, 1, [two, two]),
+        (Call::RemoveLast, 2, 0, [NULL, NULL]),
+        (Call::AddFirst, 3, 1, [three, three]),
+        (Call::RemoveFirst, 3, 0, [NULL, NULL]),
     ]
     .into_iter()
     .enumerate()
