@@ -1,9 +1,9 @@
 -- How many index pages a LOB can have, and where its first free node stands.
-use Rattle.std.proofs.Common.{◌≡◌, inl, inr, ℕ, ◌+◌, ◌<◌, ◌≤◌, ◌==◌, List, [], ◌∷◌, ◌++◌, length, map, Some, None, Option, refl, sym, ap, ◌∙◌, subst, arith, lit≤}
+use Rattle.std.proofs.Common.{◌≡◌, inl, inr, ℕ, ◌+◌, ◌<◌, ◌≤◌, ◌==◌, List, [], ◌∷◌, ◌++◌, length, map, Some, None, Option, sym, ap, subst, arith, lit≤}
 use Rattle.std.proofs.lemmas.Bool.{cases_eq, eq-eqb, ne_eqb}
 use Rattle.page_model.specs.Pages.{Pages, Address}
 use Rattle.page_model.specs.Lists.{first_of}
-use Rattle.page_model.specs.Counts.{has, covers, one_if, times}
+use Rattle.page_model.specs.Counts.{covers, one_if, times}
 use Rattle.page_model.proofs.CountLemmas.{few_pages}
 use Rattle.page_model.proofs.CoverLemmas.{has_in, has_off, covers_nil, covers_cons, covers_once}
 use Rattle.page_space.specs.Map.{IsSize}
@@ -33,7 +33,7 @@ chain_low pages page (m ∷ more) chain n some = elim (cases_eq m n) [
 ]
 
 -- no more index pages than pages
-few_index : (pages : Pages) (lob : Lob) (loose : List Address) → IsLobBut pages lob loose → length lob.index ≤ length pages
+pub few_index : (pages : Pages) (lob : Lob) (loose : List Address) → IsLobBut pages lob loose → length lob.index ≤ length pages
 few_index pages lob loose is =
     few_pages (length pages) lob.index
     (λ n. omega (arith, covers_once (lob_parts lob loose) is.shape.apart n 0, parts_covers lob loose n 0, heads_times n lob.index))

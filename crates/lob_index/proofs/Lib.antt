@@ -4,6 +4,10 @@ pub mod IndexLemmas
 pub mod NodeLemmas
 pub mod HonestLemmas
 pub mod UseLemmas
+pub mod OwnLemmas
+pub mod DataLemmas
+pub mod AnswerLemmas
+pub mod GivenLemmas
 pub mod PageLemmas
 pub mod RefillLemmas
 pub mod StepLemmas

@@ -35,11 +35,14 @@ module _ {T : Type 0} {state : T → PageState} {stays : T → T → Type 0} (pa
   named : Uses state stays (page ∷ []) 0 0 s t → Uses state stays (node ∷ page ∷ []) 0 0 s t
   named uses = uses_more (page ∷ []) (node ∷ page ∷ []) 0 0 0 0 s t uses (within_two node page []) (lit≤ tt) (lit≤ tt)
 
-  pub take_may : MayUse (page ∷ []) 3 40 (state s) → Uses state stays (page ∷ []) 0 0 s t → MayUse (node ∷ page ∷ []) 2 40 (state t)
-  take_may may uses = may_within (node ∷ page ∷ []) (node ∷ page ∷ []) 2 40 0 0 2 40 s t (λ n is. is) (lit≤ tt) (lit≤ tt) (may_name node (page ∷ []) 2 40 (state s) may) (named uses)
+  pub take_may : MayUse (page ∷ []) 2 40 (state s) → Uses state stays (page ∷ []) 0 0 s t → MayUse (node ∷ page ∷ []) 1 40 (state t)
+  take_may may uses = may_within (node ∷ page ∷ []) (node ∷ page ∷ []) 1 40 0 0 1 40 s t (λ n is. is) (lit≤ tt) (lit≤ tt) (may_name node (page ∷ []) 1 40 (state s) may) (named uses)
 
-  pub take_uses : (add : (a b c : T) → stays a b → stays b c → stays a c) → (u : T) → Uses state stays (page ∷ []) 0 0 s t → Uses state stays (node ∷ page ∷ []) 2 40 t u → Uses state stays (page ∷ []) 3 40 s u
-  take_uses add u first second = uses_unnamed node (page ∷ []) 2 40 s u (uses_within add (node ∷ page ∷ []) (node ∷ page ∷ []) 0 0 2 40 s t u (λ n is. is) (named first) second)
+  pub take_named : (add : (a b c : T) → stays a b → stays b c → stays a c) → (u : T) → Uses state stays (page ∷ []) 0 0 s t → Uses state stays (node ∷ page ∷ []) 1 40 t u → Uses state stays (node ∷ page ∷ []) 1 40 s u
+  take_named add u first second = uses_within add (node ∷ page ∷ []) (node ∷ page ∷ []) 0 0 1 40 s t u (λ n is. is) (named first) second
+
+  pub take_uses : (add : (a b c : T) → stays a b → stays b c → stays a c) → (u : T) → Uses state stays (page ∷ []) 0 0 s t → Uses state stays (node ∷ page ∷ []) 1 40 t u → Uses state stays (page ∷ []) 2 40 s u
+  take_uses add u first second = uses_unnamed node (page ∷ []) 1 40 s u (take_named add u first second)
 
 -- ---- what is left
 

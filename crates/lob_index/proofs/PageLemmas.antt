@@ -1,17 +1,16 @@
 -- An index page laid out, and the base of the free nodes.
-use Rattle.std.proofs.Common.{◌≡◌, inl, inr, ℕ, zero, suc, ◌+◌, ◌*◌, ◌<◌, ◌≤◌, Bool, true, ◌&&◌, List, [], ◌∷◌, length, map, drop, Option, Some, None, refl, sym, ap, ap₂, ◌∙◌, subst, lit≤, arith}
+use Rattle.std.proofs.Common.{◌≡◌, inl, inr, ℕ, zero, suc, ◌+◌, ◌*◌, ◌<◌, ◌≤◌, Bool, true, ◌&&◌, List, [], ◌∷◌, length, map, Option, Some, None, refl, sym, ap, ap₂, ◌∙◌, subst, lit≤, arith}
 use Rattle.std.specs.Option.{option_map}
 use Rattle.std.proofs.lemmas.Bool.{cases_eq, le-leb, cond-true, cond-false, eq-eqb, ne_eqb}
-use Rattle.byteorder.specs.Endian.{big_number}
 use Rattle.page_model.specs.Pages.{Pages, AreWhole, Fits, Address, field, address_at, written, null_address, null_page}
-use Rattle.page_model.specs.Spans.{Span, span, AreApart, SameOutside}
-use Rattle.page_model.specs.Lists.{IsNodePlace, IsWalk, first_or, last_or, base_span}
+use Rattle.page_model.specs.Spans.{span, AreApart, SameOutside}
+use Rattle.page_model.specs.Lists.{IsWalk, first_or, last_or}
 use Rattle.page_model.specs.Steps.{Told}
 use Rattle.page_model.specs.Tables.{Field, HasFields, field_span, header_fields, are_rising}
 use Rattle.page_model.proofs.FrameLemmas.{written_outside, field-written_in}
 use Rattle.page_model.proofs.TableLemmas.{fields_kept, table_written}
 use Rattle.lob_pages.proofs.ByteLemmas.{alone}
-use Rattle.lob_model.specs.Places.{at_place, free_base, whole_page, entries_from}
+use Rattle.lob_model.specs.Places.{at_place, entries_from}
 use Rattle.lob_index.specs.IndexPages.{node_at, linked, link_fields, node_fields, AreLinked, MakesIndexPage, SetsFreeBase}
 
 -- ---- in the buffer

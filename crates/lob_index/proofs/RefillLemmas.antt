@@ -1,5 +1,5 @@
 -- An index page more, of whose nodes the first is in no list and the others are the free ones.
-use Rattle.std.proofs.Common.{refl, ◌≡◌, ◌⊎◌, inl, inr, ℕ, suc, ◌+◌, ◌≤◌, List, [], ◌∷◌, ◌++◌, length, map, sym, ◌∙◌, ap, subst, lit≤, arith}
+use Rattle.std.proofs.Common.{refl, ◌≡◌, ◌⊎◌, inl, inr, ℕ, ◌+◌, ◌≤◌, List, [], ◌∷◌, ◌++◌, length, map, sym, ◌∙◌, ap, subst, lit≤, arith}
 use Rattle.std.proofs.lemmas.List.{length-append}
 use Rattle.page_model.specs.Pages.{Pages, Address, field}
 use Rattle.page_model.specs.Spans.{Span, span, IsApartFromAll, AreApart, SameOutside}
@@ -10,7 +10,7 @@ use Rattle.page_model.specs.Counts.{has, covers, AreWide}
 use Rattle.page_model.proofs.CoverLemmas.{has_off, has_less, in_or_off, covers_cons, covers_nil, covers_once, covers_off, map_covers, map_wide, across_by, from_all_by, pairwise_by}
 use Rattle.store_data.specs.Store.{Lob}
 use Rattle.lob_model.specs.Pieces.{versions, place_of, head_place}
-use Rattle.lob_model.specs.Places.{heads_base, free_base, entry_span, head_span, first_span, data_span, whole_page, at_place, entries_from, index_entries, AreEntryPlaces}
+use Rattle.lob_model.specs.Places.{heads_base, free_base, entry_span, head_span, first_span, data_span, whole_page, at_place, entries_from, AreEntryPlaces}
 use Rattle.lob_model.specs.Begin.{refilled}
 use Rattle.lob_model.specs.Lobs.{IsPage, IsChain, IsLob, IsLobBut, IsShaped, entries, entry_count, lob_parts, lob_spans}
 use Rattle.lob_model.specs.Changes.{refill_spans}

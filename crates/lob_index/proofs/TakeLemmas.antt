@@ -1,10 +1,10 @@
 -- A node taken: what the calls leave of the LOB, the map and the rest of a store.
-use Rattle.std.proofs.Common.{◌≡◌, ◌≢◌, ◌⊎◌, inl, inr, ℕ, ◌+◌, ◌/◌, ◌<◌, ◌≤◌, ◌==◌, List, [], ◌∷◌, ◌++◌, length, map, Option, Some, None, refl, sym, ap, ◌∙◌, subst, lit≤, arith}
+use Rattle.std.proofs.Common.{◌≡◌, ◌≢◌, inl, inr, ℕ, ◌+◌, ◌/◌, ◌<◌, ◌≤◌, ◌==◌, List, [], ◌∷◌, ◌++◌, length, map, Option, Some, None, refl, sym, ap, ◌∙◌, subst, lit≤, arith}
 use Rattle.std.proofs.lemmas.Bool.{cases_eq, cases_lt, ne_eqb}
 use Rattle.std.proofs.lemmas.List.{length-append}
-use Rattle.page_model.specs.Pages.{Pages, Address, field, page_bytes}
+use Rattle.page_model.specs.Pages.{Pages, Address, field}
 use Rattle.page_model.specs.Spans.{Span, span, IsApartFromAll, ArePairwiseApart, SameOutside, SetsField}
-use Rattle.page_model.specs.Lists.{IsList, list_spans, base_span, node_span}
+use Rattle.page_model.specs.Lists.{list_spans, base_span, node_span}
 use Rattle.page_model.specs.Counts.{covers, one_if, times}
 use Rattle.page_model.proofs.CountLemmas.{times_here}
 use Rattle.page_model.proofs.CoverLemmas.{covers_cons, covers_nil, covers_once, map_covers, map_wide, pairwise_by}
@@ -15,16 +15,16 @@ use Rattle.page_model.specs.Steps.{Becomes}
 use Rattle.engine_base.specs.Addresses.{address_of}
 use Rattle.engine_base.specs.declared.addr.Addr.{Addr}
 use Rattle.file_lists.specs.Links.{link_of}
-use Rattle.page_space.specs.Map.{IsUsed, IsFree, place_of, map_spans, TakesPage}
+use Rattle.page_space.specs.Map.{IsFree, place_of, map_spans, TakesPage}
 use Rattle.store_data.specs.Store.{Version, Piece, Lob}
 use Rattle.store_parts.specs.Standing.{AreOn}
 use Rattle.store_parts.specs.Keeps.{Keeps, IsWithin}
 use Rattle.store_parts.proofs.CountLemmas.{off_page, apart_on, on_pages}
 use Rattle.store_parts.proofs.KeepLemmas.{keeps_take, keeps_write, keeps_then, keeps_same}
 use Rattle.lob_model.specs.Pieces.{versions}
-use Rattle.lob_model.specs.Places.{free_base, entry_span, whole_page, at_place, entries_from, index_entries}
+use Rattle.lob_model.specs.Places.{free_base, entry_span, whole_page, at_place, entries_from}
 use Rattle.lob_model.specs.Begin.{refilled}
-use Rattle.lob_model.specs.Lobs.{IsPage, IsLob, IsLobBut, IsShaped, AreAll, entries, entry_count, lob_parts, lob_pages, lob_spans}
+use Rattle.lob_model.specs.Lobs.{IsLob, IsLobBut, IsShaped, AreAll, entries, entry_count, lob_parts, lob_pages, lob_spans}
 use Rattle.lob_model.specs.Changes.{refill_spans}
 use Rattle.lob_model.proofs.BeginLemmas.{long_from, refilled_shape}
 use Rattle.lob_model.proofs.CoverLemmas.{nodes_covered}

@@ -6,7 +6,7 @@ use Rattle.page_model.specs.Pages.{Pages, Address, field, page_bytes}
 use Rattle.page_model.specs.Spans.{SameOutside}
 use Rattle.page_model.specs.Steps.{PageState}
 use Rattle.engine_base.specs.Faults.{Oddity}
-use Rattle.file_lists.specs.Strange.{IsOddLink, IsOddAround}
+use Rattle.file_lists.specs.Strange.{IsOddLink, IsOddBehind}
 use Rattle.store_data.specs.Store.{Lob}
 use Rattle.lob_model.specs.Places.{free_base}
 use Rattle.lob_model.specs.declared.layout.TheConstants.{FREE, ENTRY}
@@ -33,10 +33,10 @@ pub record IsOddPlace (told : Option Pages) (first page at value : ℕ) : Type 0
   pub past : page_bytes < value + ENTRY
   pub reads : IfSome told (λ pages. value ≡ field pages first (FREE + 8) 2)
 
--- what taking a free node may name: the address of the first, the length of the list, or an
--- address in a node
+-- what taking a free node may name: the address of the first, the length of the list, or the
+-- address behind a node
 abbrev pub IsOddFree : PageState → ℕ → Oddity
 IsOddFree s first page at value =
     IsOddLink s.told s.count first (FREE + 4) page at value
     ⊎ (IsOddPlace s.told first page at value
-    ⊎ ((node : Address) × IsOddAround s (free_base first) node page at value))
+    ⊎ ((node : Address) × IsOddBehind s (free_base first) node page at value))

@@ -1,4 +1,5 @@
-//! Where the addresses of a list's base and of a node stand, from its first byte on.
+//! Where the addresses of a list's base and of a node stand, from its first byte on, and what
+//! stands before the data of a data page.
 //!
 //! | Offset | Bytes | Field of a base | Offset | Bytes | Field of a node |
 //! |---|---|---|---|---|---|
@@ -6,8 +7,8 @@
 //! | 4 | 6 | address of the first node | 6 | 6 | address of the node behind |
 //! | 10 | 6 | address of the last node | | | |
 
-use engine_base::PAGE_BYTES;
-use lob_model::layout::{ENTRY, INDEX_COUNT, INDEX_ENTRIES};
+use engine_base::{HEADER_BYTES, PAGE_BYTES};
+use lob_model::layout::{DATA, ENTRY, INDEX_COUNT, INDEX_ENTRIES};
 
 pub const FIRST: u16 = 4;
 
@@ -34,3 +35,13 @@ pub const LAST_PLACE: u16 = PAGE_BYTES as u16 - ENTRY;
 pub const LAST_NODE: u16 = INDEX_COUNT - 1;
 
 const _: () = prove!(INDEX_ENTRIES + ENTRY * LAST_NODE == 16_299);
+
+/// Where the length of the data of a data page stands.
+pub const DATA_LENGTH: u16 = HEADER_BYTES + 1;
+
+/// Where the transaction stands that made it.
+pub const DATA_TRX: u16 = DATA_LENGTH + 4;
+
+const _: () = prove!(DATA_LENGTH == 39);
+
+const _: () = prove!(DATA_TRX + 6 == DATA);

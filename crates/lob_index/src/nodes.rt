@@ -17,15 +17,15 @@ ghost use Rattle.lob_index.specs.Nodes.{LoosesNode, GivesNode, IsOddFree};
 
 use crate::layout::{FIRST_AT, LAST_PLACE};
 use engine_base::{Addr, Fault, PageNo, Pages, strange};
-use file_lists::{add_first, first, remove};
+use file_lists::{add_first, first, remove_first};
 use lob_model::layout::FREE;
 
 /// Takes the first of a LOB's free nodes, or none where it has none. Besides the page named it
-/// touches that of the node and those of its neighbours, and it writes 16 bytes in three writes.
-/// Where it has none the base alone is read.
+/// touches two, that of the node and that of the node behind, and it writes 16 bytes in three
+/// writes. Where it has none the base alone is read.
 pub fn take_free<P: Pages>(p: &mut P, page: PageNo) -> Result<Option<Addr>, Fault>
     requires page { page.0 < (P.state p.old).count }
-    requires may { MayUse (page.0 ∷ []) 3 (16 + 3 * write_head) (P.state p.old) }
+    requires may { MayUse (page.0 ∷ []) 2 (16 + 3 * write_head) (P.state p.old) }
     ensures takes { (node : Address) (rest : List Address)
         → IfLob (P.state p.old).told page.0 (λ pages lob. lob.free ≡ node ∷ rest
         → IfOk result (λ link. link_of link ≡ Some node)
@@ -41,12 +41,14 @@ pub fn take_free<P: Pages>(p: &mut P, page: PageNo) -> Result<Option<Addr>, Faul
     ensures place { IfOk result
         (λ link. IfSome link (λ a. FitsPage (P.state p.old).count (address_of a))) }
 
-    // Strange names the address of the first node, the length of the list, or an address in a node,
-    // as each stood at the call.
+    // Strange names the address of the first node, the length of the list, or the address behind a
+    // node, as each stood at the call.
     ensures honest { IfErr result (IsHonest (IsOddFree (P.state p.old) page.0)) }
     ensures never { IfLob (P.state p.old).told page.0 (λ pages lob. FailsPlainly result) }
     ensures cause { HasCause (P.state p.old).faults (P.state p.new).faults result }
-    ensures uses { Uses P.state P.stays (page.0 ∷ []) 3 (16 + 3 * write_head) p.old p.new }
+    ensures named { IfOk result (λ link. IfSome link (λ a.
+        Uses P.state P.stays (a.page.0 ∷ page.0 ∷ []) 1 (16 + 3 * write_head) p.old p.new)) }
+    ensures uses { Uses P.state P.stays (page.0 ∷ []) 2 (16 + 3 * write_head) p.old p.new }
 {
     let base = Addr { page, at: FREE };
     let Some(node) = first(p, base)? else {
@@ -55,7 +57,7 @@ pub fn take_free<P: Pages>(p: &mut P, page: PageNo) -> Result<Option<Addr>, Faul
     if node.at > LAST_PLACE {
         return strange(page, FREE + FIRST_AT, u64::from(node.at));
     }
-    remove(p, base, node)?;
+    remove_first(p, base, node)?;
     Ok(Some(node))
 }
 

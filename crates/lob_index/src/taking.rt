@@ -20,11 +20,12 @@ use page_space::Space;
 /// Takes a node that is in no list from then on: the first of a LOB's free ones or, where none is
 /// free, the first of a page that is taken from the map and becomes an index page. Where a page is
 /// needed and none is reserved it is Strange, and nothing is changed.
-/// Besides the pages named it touches three, and it writes 16,409 bytes at most, in five writes.
+/// Besides the pages named it touches two, that of the node and that of the free node behind it,
+/// and it writes 16,409 bytes at most, in five writes.
 pub fn take_node<P: Pages>(p: &mut P, space: &mut Space, page: PageNo) -> Result<Addr, Fault>
     requires page { page.0 < (P.state p.old).count }
     requires size { IsSize (P.state p.old).count }
-    requires may { MayUse (0 ∷ page.0 ∷ []) 3 node_room (P.state p.old) }
+    requires may { MayUse (0 ∷ page.0 ∷ []) 2 node_room (P.state p.old) }
     ensures takes { (pages : Pages) (lob : Lob)
         → (P.state p.old).told ≡ Some pages → lob.page ≡ page.0
         → CanTakeNode space.old pages lob
@@ -39,7 +40,10 @@ pub fn take_node<P: Pages>(p: &mut P, space: &mut Space, page: PageNo) -> Result
         → (P.state p.old).told ≡ Some pages → lob.page ≡ page.0
         → CanTakeNode space.old pages lob → FailsPlainly result }
     ensures cause { HasCause (P.state p.old).faults (P.state p.new).faults result }
-    ensures uses { Uses P.state P.stays (0 ∷ page.0 ∷ []) 3 node_room p.old p.new }
+    // The page of the node is one of those touched.
+    ensures named { IfOk result (λ node.
+        Uses P.state P.stays (node.page.0 ∷ 0 ∷ page.0 ∷ []) 1 node_room p.old p.new) }
+    ensures uses { Uses P.state P.stays (0 ∷ page.0 ∷ []) 2 node_room p.old p.new }
 {
     if let Some(node) = take_free(p, page)? {
         return Ok(node);
@@ -70,6 +74,8 @@ fn take_index_page<P: Pages>(p: &mut P, space: &mut Space, page: PageNo) -> Resu
         → (P.state p.old).told ≡ Some pages
         → CanTakeNode space.old pages lob → FailsPlainly result }
     ensures cause { HasCause (P.state p.old).faults (P.state p.new).faults result }
+    ensures named { IfOk result (λ node.
+        Uses P.state P.stays (node.page.0 ∷ 0 ∷ page.0 ∷ []) 0 node_room p.old p.new) }
     ensures uses { Uses P.state P.stays (0 ∷ page.0 ∷ []) 1 node_room p.old p.new }
 {
     let behind = read_field(p, page, CHAIN, 4)? as u32;

@@ -1,10 +1,10 @@
-use Rattle.std.proofs.Common.{◌≡◌, ℕ, sym, subst, ◌∙◌, lit≤, ◌+◌, []}
+use Rattle.std.proofs.Common.{◌≡◌, ℕ, sym, subst, ◌∙◌, lit≤}
 use Rattle.page_model.specs.Pages.{Pages, field}
 use Rattle.page_model.specs.Spans.{SetsField}
 use Rattle.page_model.proofs.StepLemmas.{uses_at_most, told_step}
 use Rattle.page_space.proofs.MapLemmas.{at_told}
 use Rattle.lob_index.specs.IndexPages.{MakesIndexPage, SetsFreeBase}
-use Rattle.lob_index.proofs.StepLemmas.{made, chained, based, take_may, make_may, chain_may, base_may}
+use Rattle.lob_index.proofs.StepLemmas.{made, chained, based, named_based, take_may, make_may, chain_may, base_may}
 use Rattle.lob_index.proofs.TakeLemmas.{took_page}
 use Rattle.lob_index.proofs.taking.take_index_page.Goals as goal
 
@@ -65,3 +65,7 @@ returns-clause-takes g c = λ pages lob is first can none.
       t4.1,
       took_page pages t1.0 t2.0 t3.0 t4.0 lob q behind c.args.space.now c.take.new.self can none t1.2.0 t2.2 (subst F back (subst V c.from.ensures t3.2)) (subst B back t4.2) (subst R back value) c.in_ok-taken.ensures.ok,
     )
+
+pub returns-clause-named : goal.returns-clause-named
+returns-clause-named g c =
+    named_based g.P.Pages.stays_on c.args.page.0 c.in_ok-taken.taken.0 c.args.p.now c.read_field.new.p c.take.new.p c.write_index_page.new.p c.write_field.new.p c.write_free_base.new.p c.read_field.ensures.uses c.take.ensures.uses c.write_index_page.ensures.uses c.write_field.ensures.uses c.write_free_base.ensures.uses

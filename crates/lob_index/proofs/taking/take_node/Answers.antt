@@ -1,10 +1,9 @@
-use Rattle.std.proofs.Common.{◌≡◌, ◌∙◌, refl, sym, ap, subst, List, [], ◌∷◌, Option, Some, None, IfNone}
-use Rattle.page_model.specs.Pages.{Pages, Address}
+use Rattle.std.proofs.Common.{◌≡◌, subst, [], ◌∷◌, Option, IfNone, IfSome}
+use Rattle.page_model.specs.Pages.{Pages}
 use Rattle.page_model.specs.Steps.{Uses}
-use Rattle.engine_base.specs.Addresses.{address_of}
 use Rattle.engine_base.specs.declared.addr.Addr.{Addr}
-use Rattle.file_lists.specs.Links.{link_of}
-use Rattle.lob_index.proofs.StepLemmas.{free_uses, page_may, page_uses}
+use Rattle.lob_index.proofs.AnswerLemmas.{if_ok}
+use Rattle.lob_index.proofs.StepLemmas.{free_uses, page_may, page_uses, some_named, page_named}
 use Rattle.lob_index.proofs.TakeLemmas.{took_some}
 use Rattle.lob_index.proofs.taking.take_node.Goals as goal
 
@@ -28,3 +27,16 @@ pub returns-clause-uses : goal.returns-clause-uses
 returns-clause-uses g c =
     let L : Option Addr → Type 0 = λ o. IfNone o (((g.P.Pages.state c.take_free.new.p).told ≡ (g.P.Pages.state c.args.p.now).told) × Uses g.P.Pages.state g.P.Pages.stays (c.args.page.0 ∷ []) 0 0 c.args.p.now c.take_free.new.p) in
     page_uses c.args.page.0 c.args.p.now c.take_free.new.p g.P.Pages.stays_on _ (subst L c.in_default.is c.in_ok-node.ensures.looked).1 c.take_index_page.ensures.uses
+
+pub returns-in-Some-clause-named : goal.returns-in-Some-clause-named
+returns-in-Some-clause-named g c =
+    let N : Option Addr → Type 0 = λ o. IfSome o (λ a. Uses g.P.Pages.state g.P.Pages.stays (a.page.0 ∷ c.args.page.0 ∷ []) 1 40 c.args.p.now c.take_free.new.p) in
+    some_named c.args.page.0 c.args.p.now c.take_free.new.p c.in-Some.node.page.0 (subst N c.in-Some.is c.in_ok-node.ensures.named)
+
+pub returns-clause-named : goal.returns-clause-named
+returns-clause-named g c =
+    let L : Option Addr → Type 0 = λ o. IfNone o (((g.P.Pages.state c.take_free.new.p).told ≡ (g.P.Pages.state c.args.p.now).told) × Uses g.P.Pages.state g.P.Pages.stays (c.args.page.0 ∷ []) 0 0 c.args.p.now c.take_free.new.p) in
+    let t = c.take_free.new.p in
+    let v = c.take_index_page.new.p in
+    let U = λ (node : Addr). Uses g.P.Pages.state g.P.Pages.stays (node.page.0 ∷ 0 ∷ c.args.page.0 ∷ []) in
+    if_ok (λ node. U node 0 16_449 t v) (λ node. U node 1 16_449 c.args.p.now v) c.take_index_page.result (λ node u. page_named c.args.page.0 c.args.p.now t g.P.Pages.stays_on node.page.0 v (subst L c.in_default.is c.in_ok-node.ensures.looked).1 u) c.take_index_page.ensures.named
