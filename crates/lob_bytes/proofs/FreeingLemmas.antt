@@ -1,39 +1,37 @@
 -- The last piece given up, call by call.
-use Rattle.std.proofs.Common.{◌≡◌, ◌≢◌, ◌⊎◌, inl, inr, ℕ, ◌+◌, ◌<◌, ◌==◌, Bool, true, false, cond, List, [], ◌∷◌, ◌++◌, length, map, Option, Some, Result, Ok, Err, OnOk, refl, sym, ap, subst, ◌∙◌, lit≤, arith}
-use Rattle.std.proofs.lemmas.Bool.{cond-true, cond-false, eq-eqb, ne_eqb}
+use Rattle.std.proofs.Common.{◌≡◌, ◌≢◌, ◌⊎◌, inl, inr, ℕ, ◌+◌, ◌<◌, Bool, true, false, List, [], ◌∷◌, ◌++◌, ◌≤◌, length, map, Option, Some, IfSome, refl, sym, ap, subst, ◌∙◌, lit≤, arith}
 use Rattle.page_model.specs.Pages.{Pages, Address}
 use Rattle.page_model.specs.Spans.{SameOutside}
-use Rattle.page_model.specs.Lists.{IsList, list_spans, node_span, base_span}
+use Rattle.page_model.specs.Lists.{base_span}
 use Rattle.page_model.specs.Counts.{times}
-use Rattle.page_model.specs.Steps.{PageState, IsWithin, MayUse, Uses, Becomes}
-use Rattle.page_model.proofs.CountLemmas.{times-append, times_here}
+use Rattle.page_model.specs.Steps.{PageState, IsWithin, MayUse, Uses, Reaches, Becomes}
+use Rattle.page_model.proofs.CountLemmas.{times-append}
 use Rattle.page_model.proofs.CoverLemmas.{covers_cons, covers_nil}
-use Rattle.page_model.proofs.FrameLemmas.{outside_wider}
-use Rattle.page_model.proofs.StepLemmas.{may_within, may_name, uses_more, uses_within, uses_unnamed, uses_at_most, within_right, within_one, within_two, within_both}
+use Rattle.page_model.proofs.StepLemmas.{uses_bound, may_within, may_name, uses_more, uses_within, uses_unnamed, uses_at_most, within_right, within_one, within_two, within_both}
 use Rattle.engine_base.specs.Faults.{IsHonest}
 use Rattle.engine_base.specs.declared.fault.Fault.{Fault}
 use Rattle.engine_base.specs.declared.fault.Fault.TheVariants.{Device, Strange}
 use Rattle.file_lists.specs.Changes.{MakesBase, ChangesList}
-use Rattle.file_lists.specs.Strange.{IsBare, IsOddLink, IsOddAround}
-use Rattle.page_space.specs.Map.{IsUsed, IsMap, map_spans}
+use Rattle.file_lists.specs.Strange.{IsBare, IsOddLink, IsOddBefore}
+use Rattle.page_space.specs.Map.{IsUsed, IsMap}
 use Rattle.store_data.specs.Store.{Version, Piece, Lob}
-use Rattle.store_parts.proofs.KeepLemmas.{keeps_give, keeps_then, keeps_same}
 use Rattle.lob_model.specs.Pieces.{versions, head_place}
 use Rattle.lob_model.specs.Places.{heads_base, free_base}
 use Rattle.lob_model.specs.Changes.{with_pieces, Freeing}
 use Rattle.lob_model.specs.Lobs.{IsLob, IsLobBut, lob_pages, lob_spans, data_pages}
 use Rattle.lob_model.proofs.AddLemmas.{alone, versions_added}
-use Rattle.lob_model.proofs.CutLemmas.{heads_covered}
 use Rattle.lob_model.proofs.FreeLemmas.{parts_covers}
-use Rattle.lob_model.proofs.KeptLemmas.{lob_kept}
 use Rattle.lob_model.proofs.LastLemmas.{freed_stands, emptied_stands}
 use Rattle.lob_model.proofs.NodeLemmas.{within_pages}
 use Rattle.lob_index.specs.Nodes.{GivesNode}
-use Rattle.lob_index.specs.Use.{GivesPages}
-use Rattle.lob_index.proofs.UseLemmas.{gives_one}
-use Rattle.lob_bytes.specs.Freeing.{ended, CanFree, FreesPiece, has_pieces, freed_nodes, GivesEntry, GivesData, IsLastNode, IsOddFreeing}
-use Rattle.lob_bytes.proofs.LastLemmas.{heads_end}
-use Rattle.lob_bytes.proofs.OwnLemmas.{pages_of, same_twice, same_fewer, bit_same, map_same, gives_nothing, gives_behind, keeps_own, map_apart, then_map}
+use Rattle.lob_index.specs.Data.{GivesData}
+use Rattle.lob_index.proofs.OwnLemmas.{pages_of, same_twice, same_fewer, map_same}
+use Rattle.lob_index.proofs.GivenLemmas.{data_split, data_used, page_given}
+use Rattle.lob_bytes.specs.Freeing.{ended, CanFree, FreesPiece, has_pieces, freed_nodes, GivesEntry, IsLastNode, IsOddFreeing}
+use Rattle.file_lists.specs.Near.{near_before}
+use Rattle.file_lists.proofs.NearLemmas.{before_few}
+use Rattle.lob_bytes.specs.declared.last.Last.{Last}
+use Rattle.lob_bytes.proofs.BuildingLemmas.{list_inside}
 
 -- ---- pages and room
 
@@ -47,47 +45,58 @@ zero_in : (q f : ℕ) → IsWithin (0 ∷ []) (all q f)
 zero_in q f = within_two q 0 (f ∷ [])
 
 -- what was read alone
-pub read_uses : {T : Type 0} {state : T → PageState} {stays : T → T → Type 0} (f : ℕ) (s t : T) → Uses state stays (f ∷ []) 1 0 s t → Uses state stays (0 ∷ f ∷ []) 4 129 s t
-read_uses f s t u = uses_more (f ∷ []) (0 ∷ f ∷ []) 1 4 0 129 s t u (within_two 0 f []) (lit≤ tt) (lit≤ tt)
+pub read_uses : {T : Type 0} {state : T → PageState} {stays : T → T → Type 0} (f : ℕ) (s t : T) → Uses state stays (f ∷ []) 1 0 s t → Uses state stays (0 ∷ f ∷ []) 3 129 s t
+read_uses f s t u = uses_more (f ∷ []) (0 ∷ f ∷ []) 1 3 0 129 s t u (within_two 0 f []) (lit≤ tt) (lit≤ tt)
+
+-- with the page of the node named that was found
+pub node_named : {T : Type 0} {state : T → PageState} {stays : T → T → Type 0} (f : ℕ) (s t : T) (found : Option Last) (last : Last) → found ≡ Some last → IfSome found (λ l. Uses state stays (l.node.page.0 ∷ f ∷ []) 0 0 s t)
+    → Uses state stays (last.node.page.0 ∷ f ∷ []) 0 0 s t
+node_named {state = state} {stays = stays} f s t found last is named =
+    let N : Option Last → Type 0 = λ o. IfSome o (λ l. Uses state stays (l.node.page.0 ∷ f ∷ []) 0 0 s t) in
+    subst N is named
+
+-- what taking the node out touched, by its number
+pub before_used : {T : Type 0} {state : T → PageState} {stays : T → T → Type 0} (node : Address) (named : List ℕ) (bytes : ℕ) (s t : T) → Reaches state stays (near_before (state s) node) named 1 bytes s t → Uses state stays named 1 bytes s t
+before_used {state = state} node named bytes s t uses = uses_bound (near_before (state s) node) named 1 bytes s t (before_few (state s) node) uses
 
 module _ {T : Type 0} {state : T → PageState} {stays : T → T → Type 0} (add : (a b c : T) → stays a b → stays b c → stays a c) (q f : ℕ) (s t1 t2 t3 t4 : T) where
   one : Uses state stays (q ∷ f ∷ []) 0 0 s t1 → Uses state stays (all q f) 0 0 s t1
   one u1 = uses_more (q ∷ f ∷ []) (all q f) 0 0 0 0 s t1 u1 (qf q f) (lit≤ tt) (lit≤ tt)
 
-  two : Uses state stays (q ∷ f ∷ []) 0 0 s t1 → Uses state stays (q ∷ f ∷ []) 2 40 t1 t2 → Uses state stays (all q f) 2 40 s t2
-  two u1 u2 = uses_within add (all q f) (q ∷ f ∷ []) 0 0 2 40 s t1 t2 (qf q f) (one u1) u2
+  two : Uses state stays (q ∷ f ∷ []) 0 0 s t1 → Uses state stays (q ∷ f ∷ []) 1 40 t1 t2 → Uses state stays (all q f) 1 40 s t2
+  two u1 u2 = uses_within add (all q f) (q ∷ f ∷ []) 0 0 1 40 s t1 t2 (qf q f) (one u1) u2
 
-  three : Uses state stays (q ∷ f ∷ []) 0 0 s t1 → Uses state stays (q ∷ f ∷ []) 2 40 t1 t2 → Uses state stays (q ∷ f ∷ []) 1 68 t2 t3 → Uses state stays (all q f) 3 108 s t3
-  three u1 u2 u3 = uses_within add (all q f) (q ∷ f ∷ []) 2 40 1 68 s t2 t3 (qf q f) (two u1 u2) u3
+  three : Uses state stays (q ∷ f ∷ []) 0 0 s t1 → Uses state stays (q ∷ f ∷ []) 1 40 t1 t2 → Uses state stays (q ∷ f ∷ []) 1 68 t2 t3 → Uses state stays (all q f) 2 108 s t3
+  three u1 u2 u3 = uses_within add (all q f) (q ∷ f ∷ []) 1 40 1 68 s t2 t3 (qf q f) (two u1 u2) u3
 
-  four : Uses state stays (q ∷ f ∷ []) 0 0 s t1 → Uses state stays (q ∷ f ∷ []) 2 40 t1 t2 → Uses state stays (q ∷ f ∷ []) 1 68 t2 t3 → Uses state stays (0 ∷ []) 0 21 t3 t4 → Uses state stays (all q f) 3 129 s t4
-  four u1 u2 u3 u4 = uses_within add (all q f) (0 ∷ []) 3 108 0 21 s t3 t4 (zero_in q f) (three u1 u2 u3) u4
+  four : Uses state stays (q ∷ f ∷ []) 0 0 s t1 → Uses state stays (q ∷ f ∷ []) 1 40 t1 t2 → Uses state stays (q ∷ f ∷ []) 1 68 t2 t3 → Uses state stays (0 ∷ []) 0 21 t3 t4 → Uses state stays (all q f) 2 129 s t4
+  four u1 u2 u3 u4 = uses_within add (all q f) (0 ∷ []) 2 108 0 21 s t3 t4 (zero_in q f) (three u1 u2 u3) u4
 
-  pub remove_may : MayUse (0 ∷ f ∷ []) 4 129 (state s) → Uses state stays (q ∷ f ∷ []) 0 0 s t1 → MayUse (q ∷ f ∷ []) 2 40 (state t1)
-  remove_may may u1 = may_within (all q f) (q ∷ f ∷ []) 3 129 0 0 2 40 s t1 (qf q f) (lit≤ tt) (lit≤ tt) (may_name q (0 ∷ f ∷ []) 3 129 (state s) may) (one u1)
+  pub remove_may : MayUse (0 ∷ f ∷ []) 3 129 (state s) → Uses state stays (q ∷ f ∷ []) 0 0 s t1 → MayUse (q ∷ f ∷ []) 1 40 (state t1)
+  remove_may may u1 = may_within (all q f) (q ∷ f ∷ []) 2 129 0 0 1 40 s t1 (qf q f) (lit≤ tt) (lit≤ tt) (may_name q (0 ∷ f ∷ []) 2 129 (state s) may) (one u1)
 
-  pub entry_may : MayUse (0 ∷ f ∷ []) 4 129 (state s) → Uses state stays (q ∷ f ∷ []) 0 0 s t1 → Uses state stays (q ∷ f ∷ []) 2 40 t1 t2 → MayUse (q ∷ f ∷ []) 1 68 (state t2)
-  entry_may may u1 u2 = may_within (all q f) (q ∷ f ∷ []) 3 129 2 40 1 68 s t2 (qf q f) (lit≤ tt) (lit≤ tt) (may_name q (0 ∷ f ∷ []) 3 129 (state s) may) (two u1 u2)
+  pub entry_may : MayUse (0 ∷ f ∷ []) 3 129 (state s) → Uses state stays (q ∷ f ∷ []) 0 0 s t1 → Uses state stays (q ∷ f ∷ []) 1 40 t1 t2 → MayUse (q ∷ f ∷ []) 1 68 (state t2)
+  entry_may may u1 u2 = may_within (all q f) (q ∷ f ∷ []) 2 129 1 40 1 68 s t2 (qf q f) (lit≤ tt) (lit≤ tt) (may_name q (0 ∷ f ∷ []) 2 129 (state s) may) (two u1 u2)
 
-  pub page_may : MayUse (0 ∷ f ∷ []) 4 129 (state s) → Uses state stays (q ∷ f ∷ []) 0 0 s t1 → Uses state stays (q ∷ f ∷ []) 2 40 t1 t2 → Uses state stays (q ∷ f ∷ []) 1 68 t2 t3 → MayUse (0 ∷ []) 0 21 (state t3)
-  page_may may u1 u2 u3 = may_within (all q f) (0 ∷ []) 3 129 3 108 0 21 s t3 (zero_in q f) (lit≤ tt) (lit≤ tt) (may_name q (0 ∷ f ∷ []) 3 129 (state s) may) (three u1 u2 u3)
+  pub page_may : MayUse (0 ∷ f ∷ []) 3 129 (state s) → Uses state stays (q ∷ f ∷ []) 0 0 s t1 → Uses state stays (q ∷ f ∷ []) 1 40 t1 t2 → Uses state stays (q ∷ f ∷ []) 1 68 t2 t3 → MayUse (0 ∷ []) 0 21 (state t3)
+  page_may may u1 u2 u3 = may_within (all q f) (0 ∷ []) 2 129 2 108 0 21 s t3 (zero_in q f) (lit≤ tt) (lit≤ tt) (may_name q (0 ∷ f ∷ []) 2 129 (state s) may) (three u1 u2 u3)
 
-  pub remove_uses : Uses state stays (q ∷ f ∷ []) 0 0 s t1 → Uses state stays (q ∷ f ∷ []) 2 40 t1 t2 → Uses state stays (0 ∷ f ∷ []) 4 129 s t2
-  remove_uses u1 u2 = uses_at_most (0 ∷ f ∷ []) 3 40 4 129 s t2 (lit≤ tt) (lit≤ tt) (uses_unnamed q (0 ∷ f ∷ []) 2 40 s t2 (two u1 u2))
+  pub remove_uses : Uses state stays (q ∷ f ∷ []) 0 0 s t1 → Uses state stays (q ∷ f ∷ []) 1 40 t1 t2 → Uses state stays (0 ∷ f ∷ []) 3 129 s t2
+  remove_uses u1 u2 = uses_at_most (0 ∷ f ∷ []) 2 40 3 129 s t2 (lit≤ tt) (lit≤ tt) (uses_unnamed q (0 ∷ f ∷ []) 1 40 s t2 (two u1 u2))
 
-  pub entry_uses : Uses state stays (q ∷ f ∷ []) 0 0 s t1 → Uses state stays (q ∷ f ∷ []) 2 40 t1 t2 → Uses state stays (q ∷ f ∷ []) 1 68 t2 t3 → Uses state stays (0 ∷ f ∷ []) 4 129 s t3
-  entry_uses u1 u2 u3 = uses_at_most (0 ∷ f ∷ []) 4 108 4 129 s t3 (lit≤ tt) (lit≤ tt) (uses_unnamed q (0 ∷ f ∷ []) 3 108 s t3 (three u1 u2 u3))
+  pub entry_uses : Uses state stays (q ∷ f ∷ []) 0 0 s t1 → Uses state stays (q ∷ f ∷ []) 1 40 t1 t2 → Uses state stays (q ∷ f ∷ []) 1 68 t2 t3 → Uses state stays (0 ∷ f ∷ []) 3 129 s t3
+  entry_uses u1 u2 u3 = uses_at_most (0 ∷ f ∷ []) 3 108 3 129 s t3 (lit≤ tt) (lit≤ tt) (uses_unnamed q (0 ∷ f ∷ []) 2 108 s t3 (three u1 u2 u3))
 
-  pub page_uses : Uses state stays (q ∷ f ∷ []) 0 0 s t1 → Uses state stays (q ∷ f ∷ []) 2 40 t1 t2 → Uses state stays (q ∷ f ∷ []) 1 68 t2 t3 → Uses state stays (0 ∷ []) 0 21 t3 t4 → Uses state stays (0 ∷ f ∷ []) 4 129 s t4
-  page_uses u1 u2 u3 u4 = uses_unnamed q (0 ∷ f ∷ []) 3 129 s t4 (four u1 u2 u3 u4)
+  pub page_uses : Uses state stays (q ∷ f ∷ []) 0 0 s t1 → Uses state stays (q ∷ f ∷ []) 1 40 t1 t2 → Uses state stays (q ∷ f ∷ []) 1 68 t2 t3 → Uses state stays (0 ∷ []) 0 21 t3 t4 → Uses state stays (0 ∷ f ∷ []) 3 129 s t4
+  page_uses u1 u2 u3 u4 = uses_unnamed q (0 ∷ f ∷ []) 2 129 s t4 (four u1 u2 u3 u4)
 
 -- ---- faults
 
 -- of pages that are as they were at the call
-pub odd_around : (s t : PageState) (first : ℕ) (node : Address) → t.told ≡ s.told → t.count ≡ s.count → IsLastNode s.told first node → (f : Fault) → IsHonest (IsOddAround t (heads_base first) node) f → IsHonest (IsOddFreeing s first) f
-odd_around s t first node told count last Device honest = tt
-odd_around s t first node told count last (Strange page at value) honest =
-    let A : Option Pages → ℕ → Type 0 = λ o n. IsBare o (heads_base first) page.0 at value ⊎ (IsOddLink o n node.page node.at page.0 at value ⊎ IsOddLink o n node.page (node.at + 6) page.0 at value) in
+pub odd_before : (s t : PageState) (first : ℕ) (node : Address) → t.told ≡ s.told → t.count ≡ s.count → IsLastNode s.told first node → (f : Fault) → IsHonest (IsOddBefore t (heads_base first) node) f → IsHonest (IsOddFreeing s first) f
+odd_before s t first node told count last Device honest = tt
+odd_before s t first node told count last (Strange page at value) honest =
+    let A : Option Pages → ℕ → Type 0 = λ o n. IsBare o (heads_base first) page.0 at value ⊎ IsOddLink o n node.page node.at page.0 at value in
     inr (inl (node, last, subst (λ (n : ℕ). A s.told n) count (subst (λ (o : Option Pages). A o t.count) told honest)))
 
 -- ---- the entry
@@ -130,21 +139,6 @@ entry_emptied left old new lob node page bare is first stands makes =
 
 -- ---- the pages of the data
 
-data_one : (n first : ℕ) (x : Version) (more : List Version) → times n (data_pages first (x ∷ more)) ≡ times n (data_pages first (x ∷ [])) + times n (data_pages first more)
-data_one n first x more = by (x.page == first)
-  where
-    by : (b : Bool) → times n (cond b (data_pages first more) (x.page ∷ data_pages first more)) ≡ times n (cond b [] (x.page ∷ [])) + times n (data_pages first more)
-    by true = omega arith
-    by false = omega arith
-
-data_split : (n first : ℕ) (xs ys : List Version) → times n (data_pages first (xs ++ ys)) ≡ times n (data_pages first xs) + times n (data_pages first ys)
-data_split n first [] ys = omega arith
-data_split n first (x ∷ xs) ys =
-    let a = data_one n first x (xs ++ ys) in
-    let b = data_one n first x xs in
-    let r = data_split n first xs ys in
-    omega (arith, a, b, r)
-
 -- the LOB has the page of the last piece's data more
 own_cut : (lob : Lob) (ps : List Piece) (x : Version) (n : ℕ) → times n (lob_pages (ended lob ps x)) ≡ times n (data_pages lob.page (x ∷ [])) + times n (lob_pages (with_pieces lob ps))
 own_cut lob ps x n =
@@ -156,47 +150,37 @@ own_cut lob ps x n =
 
 -- ---- the list of heads
 
-nil : (ns : List Address) → ns ++ [] ≡ ns
-nil [] = refl
-nil (n ∷ ns) = ap (λ (ms : List Address). n ∷ ms) (nil ns)
-
-module _ (old mid : Pages) (lob : Lob) (ps : List Piece) (x : Version) (is : IsLob old (ended lob ps x)) (changes : ChangesList (heads_base lob.page) (map head_place ps ++ x.place ∷ []) (map head_place ps ++ []) old mid) where
+module _ (old mid : Pages) (lob : Lob) (ps : List Piece) (x : Version) (is : IsLob old (ended lob ps x)) (changes : ChangesList (heads_base lob.page) (map head_place ps ++ x.place ∷ []) (map head_place ps) old mid) where
   freeing : Freeing old mid lob ps x
   freeing = record {
     lob = is;
     outside = changes.outside;
-    list = let L : List Address → Type 0 = λ ns. IsList mid (heads_base lob.page) ns in subst L (nil (map head_place ps)) changes.list;
+    list = changes.list;
   }
 
   pub removed_stands : IsLobBut mid (with_pieces lob ps) (x.place ∷ [])
   removed_stands = freed_stands old mid lob ps x freeing
 
-  pub removed_same : SameOutside (lob_spans (ended lob ps x)) old mid
-  removed_same =
-      let hb = base_span (heads_base lob.page) in
-      let all = ps ++ alone x ∷ [] in
-      let S : List Address → Type 0 = λ ns. SameOutside (list_spans (heads_base lob.page) ns) old mid in
-      within_pages (list_spans (heads_base lob.page) (map head_place all)) old mid (ended lob ps x) [] is.shape
-      (λ n k. omega (arith, covers_cons hb (map node_span (map head_place all)) n k, heads_covered all n k, parts_covers (ended lob ps x) [] n k))
-      (subst S (sym (heads_end ps x)) changes.outside)
+  pub removed_same : SameOutside (lob_spans (with_pieces lob ps)) old mid
+  removed_same = list_inside old mid (with_pieces lob ps) x.place removed_stands.shape changes.outside
 
 -- ---- the whole
 
 -- behind the giving up of the node
 pub record NodeFreed (lob : Lob) (ps : List Piece) (x : Version) (old new : Pages) : Type 0 where
   pub lob' : IsLob new (record lob { pieces = ps; free = freed_nodes ps x.place lob.free })
-  pub same : SameOutside (pages_of (lob_pages (ended lob ps x))) old new
+  pub same : SameOutside (pages_of (lob_pages (with_pieces lob ps))) old new
 
 -- the node taken out of the list of heads and given up: the LOB without its last piece
 pub node_freed : (told1 told2 : Option Pages) (old : Pages) (lob : Lob) (ps : List Piece) (x : Version) (first : ℕ) (node : Address) → lob.page ≡ first → node ≡ x.place → IsLob old (ended lob ps x)
-    → Becomes told1 (ChangesList (heads_base first) (map head_place ps ++ node ∷ []) (map head_place ps ++ []) old)
+    → Becomes told1 (ChangesList (heads_base first) (map head_place ps ++ node ∷ []) (map head_place ps) old)
     → ((mid : Pages) → told1 ≡ Some mid → IsLobBut mid (with_pieces lob ps) (node ∷ []) → Becomes told2 (GivesEntry (with_pieces lob ps) node mid))
     → Becomes told2 (NodeFreed lob ps x old)
 node_freed told1 told2 old lob ps x first node page same is removed gave =
-    let own = lob_pages (ended lob ps x) in
+    let own = lob_pages (with_pieces lob ps) in
     let mid = removed.0 in
-    let C : ℕ → Type 0 = λ n. ChangesList (heads_base n) (map head_place ps ++ x.place ∷ []) (map head_place ps ++ []) old mid in
-    let N : Address → Type 0 = λ a. ChangesList (heads_base first) (map head_place ps ++ a ∷ []) (map head_place ps ++ []) old mid in
+    let C : ℕ → Type 0 = λ n. ChangesList (heads_base n) (map head_place ps ++ x.place ∷ []) (map head_place ps) old mid in
+    let N : Address → Type 0 = λ a. ChangesList (heads_base first) (map head_place ps ++ a ∷ []) (map head_place ps) old mid in
     let changes = subst C (sym page) (subst N same removed.2) in
     let B : Address → Type 0 = λ a. IsLobBut mid (with_pieces lob ps) (a ∷ []) in
     let given = gave mid removed.1 (subst B (sym same) (removed_stands old mid lob ps x is changes)) in
@@ -206,70 +190,34 @@ node_freed told1 told2 old lob ps x first node page same is removed gave =
       given.1,
       record {
         lob' = g.lob';
-        same = same_twice own old mid given.0 (removed_same old mid lob ps x is changes) (same_fewer own (lob_pages (with_pieces lob ps)) mid given.0 (λ n. let c = own_cut lob ps x n in omega (arith, c)) g.outside);
+        same = same_twice own old mid given.0 (removed_same old mid lob ps x is changes) g.outside;
       },
     )
 
 -- the node may be given up
 pub node_loose : (old : Pages) (told1 : Option Pages) (lob : Lob) (ps : List Piece) (x : Version) (first : ℕ) (node : Address) → lob.page ≡ first → node ≡ x.place → IsLob old (ended lob ps x)
-    → (removed : Becomes told1 (ChangesList (heads_base first) (map head_place ps ++ node ∷ []) (map head_place ps ++ []) old))
+    → (removed : Becomes told1 (ChangesList (heads_base first) (map head_place ps ++ node ∷ []) (map head_place ps) old))
     → IsLobBut removed.0 (with_pieces lob ps) (node ∷ [])
 node_loose old told1 lob ps x first node page same is removed =
     let mid = removed.0 in
-    let C : ℕ → Type 0 = λ n. ChangesList (heads_base n) (map head_place ps ++ x.place ∷ []) (map head_place ps ++ []) old mid in
-    let N : Address → Type 0 = λ a. ChangesList (heads_base first) (map head_place ps ++ a ∷ []) (map head_place ps ++ []) old mid in
+    let C : ℕ → Type 0 = λ n. ChangesList (heads_base n) (map head_place ps ++ x.place ∷ []) (map head_place ps) old mid in
+    let N : Address → Type 0 = λ a. ChangesList (heads_base first) (map head_place ps ++ a ∷ []) (map head_place ps) old mid in
     let B : Address → Type 0 = λ a. IsLobBut mid (with_pieces lob ps) (a ∷ []) in
     subst B (sym same) (removed_stands old mid lob ps x is (subst C (sym page) (subst N same removed.2)))
 
 module _ (old mid : Pages) (lob : Lob) (ps : List Piece) (x : Version) (can : CanFree lob ps x old) (freed : NodeFreed lob ps x old mid) where
+  less : (n : ℕ) → times n (lob_pages (with_pieces lob ps)) ≤ times n (lob_pages (ended lob ps x))
+  less n = let c = own_cut lob ps x n in omega (arith, c)
+
   -- the map stands
   pub map_freed : IsMap mid
-  map_freed = map_same (lob_pages (ended lob ps x)) old mid can.used.other freed.same can.map
+  map_freed = map_same (lob_pages (ended lob ps x)) old mid can.used.other (same_fewer (lob_pages (ended lob ps x)) (lob_pages (with_pieces lob ps)) old mid less freed.same) can.map
 
   -- the page of the data is used, unless it is the first one
-  pub data_used : x.page ≢ lob.page → IsUsed mid x.page
-  data_used other =
-      bit_same (lob_pages (ended lob ps x)) old mid can.used.other freed.same x.page
-      ∙ can.used.each x.page (
-      let c = own_cut lob ps x x.page in
-      let h = times_here x.page [] in
-      let e : times x.page (data_pages lob.page (x ∷ [])) ≡ times x.page (x.page ∷ []) = ap (times x.page) (cond-false (x.page == lob.page) [] (x.page ∷ []) (ne_eqb x.page lob.page other)) in
-      omega (arith, c, h, e)
-      )
+  pub page_used : x.page ≢ lob.page → IsUsed mid x.page
+  page_used = data_used (lob_pages (ended lob ps x)) (lob_pages (with_pieces lob ps)) (with_pieces lob ps) x.page old mid can.used (own_cut lob ps x) less freed.same
 
   pub piece_freed : (new : Pages) → x.page < length old → GivesData lob.page x.page mid new → FreesPiece lob ps x old new
-  piece_freed new there (inl stays) =
-      let ns = lob_pages (ended lob ps x) in
-      let left = lob_pages (with_pieces lob ps) in
-      let e : data_pages lob.page (x ∷ []) ≡ [] = cond-true (x.page == lob.page) [] (x.page ∷ []) (eq-eqb x.page lob.page stays.0) in
-      let R : Pages → Type 0 = λ pages. FreesPiece lob ps x old pages in
-      subst R (sym stays.1) (record {
-        lob' = freed.lob';
-        gives = subst (λ (ms : List ℕ). GivesPages ms old mid) (sym e) (gives_nothing ns old mid can.used.other freed.same can.map);
-        outside = outside_wider (pages_of ns) (map_spans ++ pages_of ns) old mid (λ n k off. off.1.1) freed.same;
-        keeps = keeps_then [] ns ns left old mid mid (keeps_own ns old mid can.used.other freed.same)
-            (keeps_same [] ns left mid (λ n. let c = own_cut lob ps x n in let z : times n (data_pages lob.page (x ∷ [])) ≡ 0 = ap (times n) e in omega (arith, c, z)));
-      })
-  piece_freed new there (inr gives) =
-      let ns = lob_pages (ended lob ps x) in
-      let left = lob_pages (with_pieces lob ps) in
-      let e : data_pages lob.page (x ∷ []) ≡ x.page ∷ [] = cond-false (x.page == lob.page) [] (x.page ∷ []) (ne_eqb x.page lob.page gives.0) in
-      let cut : (n : ℕ) → times n ns ≡ times n (x.page ∷ []) + times n left = λ n. let c = own_cut lob ps x n in let z : times n (data_pages lob.page (x ∷ [])) ≡ times n (x.page ∷ []) = ap (times n) e in omega (arith, c, z) in
-      let clear : times 0 left ≡ 0 = let c = own_cut lob ps x 0 in let o = can.used.other in omega (arith, c, o) in
-      let few = can.map.size.few in
-      record {
-        lob' = lob_kept _ mid new (record lob { pieces = ps; free = freed_nodes ps x.place lob.free }) gives.1.change.outside (map_apart left x.page clear) freed.lob';
-        gives = subst (λ (ms : List ℕ). GivesPages ms old new) (sym e)
-            (gives_behind ns old mid can.used.other freed.same (x.page ∷ []) new (gives_one x.page mid new (data_used gives.0) gives.1));
-        outside = then_map ns x.page old mid new (omega (arith, there, few)) freed.same gives.1.change.outside;
-        keeps = keeps_then [] ns ns left old mid new (keeps_own ns old mid can.used.other freed.same) (keeps_give [] ns left x.page mid new (λ n. omega arith) cut gives.1);
-      }
-
--- what an Ok answer gives, it gives of what follows from it
-pub on_ok : {A : Type 0} (P Q : Type 0) (r : Result A Fault) → (P → Q) → OnOk r P → OnOk r Q
-on_ok P Q (Ok a) so p = so p
-on_ok P Q (Err e) so p = tt
-
--- what pages become, they become of what follows from it
-pub becomes_on : (P Q : Pages → Type 0) (told : Option Pages) → ((pages : Pages) → P pages → Q pages) → Becomes told P → Becomes told Q
-becomes_on P Q told so is = (is.0, is.1, so is.0 is.2)
+  piece_freed new there gives =
+      let r = page_given (lob_pages (ended lob ps x)) (lob_pages (with_pieces lob ps)) (record lob { pieces = ps; free = freed_nodes ps x.place lob.free }) x.page old mid can.used (own_cut lob ps x) less freed.same new there can.map freed.lob' gives in
+      record { lob' = r.lob'; gives = r.gives; outside = r.outside; keeps = r.keeps }

@@ -1,5 +1,5 @@
 -- The last piece of a LOB, as it is read.
-use Rattle.std.proofs.Common.{◌≡◌, inl, inr, ℕ, ◌+◌, ◌<◌, nat_lt, List, [], ◌∷◌, ◌++◌, length, map, Option, Some, None, IfSome, refl, sym, ap, ◌∙◌, subst, lit≤, arith}
+use Rattle.std.proofs.Common.{◌≡◌, inl, inr, ℕ, ◌+◌, ◌<◌, nat_lt, List, [], ◌∷◌, ◌++◌, length, map, Option, Some, IfSome, refl, sym, ap, ◌∙◌, subst, lit≤, arith}
 use Rattle.std.proofs.lemmas.Bool.{lt-ltb}
 use Rattle.std.proofs.lemmas.List.{length-append}
 use Rattle.page_model.specs.Pages.{Pages, Address, field, null_address}
@@ -39,22 +39,6 @@ more_than_one ps x n is = let P : ℕ → Type 0 = λ k. nat_lt 1 k ≡ has_piec
     by : (qs : List Piece) → nat_lt 1 (length (map head_place qs ++ x.place ∷ [])) ≡ has_pieces qs
     by [] = refl
     by (q ∷ qs) = lt-ltb 1 (length (map head_place (q ∷ qs) ++ x.place ∷ [])) (omega (arith, length-append (map head_place qs) (x.place ∷ [])))
-
--- two links that are the same
-pub same_some : (a b : Address) → Some a ≡ Some b → a ≡ b
-same_some a b e = subst IsThis e refl
-  where
-    IsThis : Option Address → Type 0
-    IsThis None = ⊥
-    IsThis (Some c) = a ≡ c
-
--- no link is one
-pub none_there : {A : Type 0} (x : Address) → None ≡ Some x → A
-none_there x e = absurd (subst IsNo e tt)
-  where
-    IsNo : Option Address → Type 0
-    IsNo None = Unit {0}
-    IsNo (Some c) = ⊥
 
 -- ---- the last piece
 

@@ -6,8 +6,10 @@ pub mod ChainLemmas
 pub mod TestLemmas
 pub mod DataLemmas
 pub mod UnseenLemmas
+pub mod SeenLemmas
+pub mod BuildingLemmas
 pub mod GrowthLemmas
 pub mod TakeLemmas
-pub mod OwnLemmas
+pub mod AddingLemmas
 pub mod LastLemmas
 pub mod FreeingLemmas

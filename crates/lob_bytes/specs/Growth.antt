@@ -1,28 +1,33 @@
 -- A piece added to a LOB that is being built.
 --     CanAddPiece reserved bytes pages lob      a piece of these bytes may be added
 --     AddsPiece lob trx bytes reserved reserved' old new      what adding it leaves
---     new_version first node page trx bytes      the version that it has
---     WritesFirst, WritesPage      what writing its data leaves
-use Rattle.std.specs.Prelude.{◌≡◌, ℕ, ◌+◌, ◌*◌, ◌<◌, ◌≤◌, List, [], ◌∷◌, ◌++◌, length, Option, Some, None, IfNone, IfSome}
-use Rattle.page_model.specs.Pages.{Pages, Address, bytes_at, null_page, null_address, page_bytes}
+--     first_version first node page trx bytes      the version that it has
+--     WritesFirst      what writing the data of the first piece leaves
+--     IsOddAdding      what adding it may name
+use Rattle.std.specs.Prelude.{◌≡◌, ◌⊎◌, ℕ, ◌+◌, ◌*◌, ◌<◌, ◌≤◌, List, [], ◌∷◌, ◌++◌, length, Option, Some, None, IfNone, IfSome}
+use Rattle.page_model.specs.Pages.{Pages, Address, bytes_at, field, null_page, null_address, page_bytes}
 use Rattle.page_model.specs.Spans.{span, SameOutside, SetsField}
-use Rattle.page_model.specs.Steps.{write_head}
-use Rattle.page_model.specs.Tables.{Field, field_at, HasFields, header_fields}
+use Rattle.page_model.specs.Steps.{PageState, write_head}
 use Rattle.page_space.specs.Map.{IsMap, map_spans, free_of}
 use Rattle.store_data.specs.Store.{Version, Piece, Lob}
 use Rattle.store_parts.specs.Keeps.{Keeps}
 use Rattle.lob_model.specs.Pieces.{piece_versions, HaveLength}
-use Rattle.lob_model.specs.Places.{data_at, whole_page}
+use Rattle.lob_model.specs.Places.{data_at, heads_base}
 use Rattle.lob_model.specs.Begin.{IsBuilding}
 use Rattle.lob_model.specs.Changes.{with_pieces, piece}
 use Rattle.lob_model.specs.Lobs.{IsLob, lob_pages, lob_spans}
-use Rattle.lob_model.specs.declared.layout.TheConstants.{FIRST_LENGTH, FIRST_DATA, FIRST_ROOM, DATA, DATA_ROOM, DATA_TYPE, FIRST_COUNT, INDEX_COUNT}
+use Rattle.lob_model.specs.declared.layout.TheConstants.{FIRST_LENGTH, FIRST_DATA, FIRST_ROOM, DATA_ROOM, FIRST_COUNT, INDEX_COUNT, HEADS}
 use Rattle.engine_base.specs.declared.ids.PageNo.{PageNo}
-use Rattle.lob_bytes.specs.declared.layout.TheConstants.{DATA_LENGTH, DATA_TRX}
+use Rattle.lob_bytes.specs.declared.layout.TheConstants.{FIRST}
+use Rattle.engine_base.specs.Faults.{Oddity}
+use Rattle.file_lists.specs.Strange.{IsOddLink, IsOddAtBack}
+use Rattle.page_space.specs.Answers.{IsSpentOrOdd}
+use Rattle.lob_index.specs.Data.{MakesData}
+use Rattle.lob_index.specs.Meanwhile.{IsMeanwhile}
 use Rattle.engine_base.specs.Addresses.{address_of}
 use Rattle.lob_pages.specs.declared.entry.Entry.{Entry}
 use Rattle.lob_index.specs.Use.{AreUsed, TakesPages}
-use Rattle.lob_index.specs.Taking.{index_taken, free_with, node_taken, node_room}
+use Rattle.lob_index.specs.Taking.{index_taken, free_with, node_taken, node_room, IsOddNode}
 
 -- ---- the piece
 
@@ -33,8 +38,8 @@ IsNext room others (p ∷ more) bytes =
     HaveLength room (piece_versions p) × IsNext others others more bytes
 
 -- the first version of a piece, made by that transaction
-abbrev pub new_version : ℕ → Address → ℕ → ℕ → List ℕ → Version
-new_version first node page trx bytes = record {
+abbrev pub first_version : ℕ → Address → ℕ → ℕ → List ℕ → Version
+first_version first node page trx bytes = record {
   place = node;
   number = 1;
   page = page;
@@ -88,25 +93,19 @@ pub record AddsPiece (lob : Lob) (trx : ℕ) (bytes : List ℕ) (reserved reserv
   pub rest : List Address
   pub first : free_with index lob.free ≡ node ∷ rest
   pub lob' : IsLob new (grown lob index rest
-      (new_version lob.page node (data_page lob.page page lob.pieces) trx bytes))
+      (first_version lob.page node (data_page lob.page page lob.pieces) trx bytes))
   pub building : IsBuilding (grown lob index rest
-      (new_version lob.page node (data_page lob.page page lob.pieces) trx bytes))
+      (first_version lob.page node (data_page lob.page page lob.pieces) trx bytes))
   pub few : length (index_taken index lob.free ++ lob.index) ≤ 4
   pub takes : TakesPages (data_taken page lob.pieces ++ index_taken index lob.free) old new
   pub spent : reserved' + length (data_taken page lob.pieces ++ index_taken index lob.free)
       ≡ reserved
   pub outside : SameOutside (map_spans ++ lob_spans (grown lob index rest
-      (new_version lob.page node (data_page lob.page page lob.pieces) trx bytes))) old new
+      (first_version lob.page node (data_page lob.page page lob.pieces) trx bytes))) old new
   pub keeps : Keeps [] (lob_pages lob) (lob_pages (grown lob index rest
-      (new_version lob.page node (data_page lob.page page lob.pieces) trx bytes))) old new
+      (first_version lob.page node (data_page lob.page page lob.pieces) trx bytes))) old new
 
 -- ---- the data
-
--- the fields of a data page before its data
-abbrev pub data_fields : ℕ → ℕ → ℕ → List Field
-data_fields page trx size =
-    header_fields page null_page null_page DATA_TYPE
-    ++ (field_at DATA_LENGTH 4 size ∷ field_at DATA_TRX 6 trx ∷ [])
 
 -- first their number, and then the data
 pub record WritesFirst (first : ℕ) (bytes : List ℕ) (old new : Pages) : Type 0 where
@@ -114,11 +113,6 @@ pub record WritesFirst (first : ℕ) (bytes : List ℕ) (old new : Pages) : Type
   pub size : SetsField first FIRST_LENGTH 4 (length bytes) old mid
   pub here : bytes_at new first FIRST_DATA (length bytes) ≡ bytes
   pub outside : SameOutside (span first FIRST_DATA (length bytes) ∷ []) mid new
-
-pub record WritesPage (page trx : ℕ) (bytes : List ℕ) (old new : Pages) : Type 0 where
-  pub fields : HasFields new page (data_fields page trx (length bytes))
-  pub here : bytes_at new page DATA (length bytes) ≡ bytes
-  pub outside : SameOutside (whole_page page ∷ []) old new
 
 -- ---- the steps
 
@@ -142,7 +136,7 @@ pub record TakesData (lob : Lob) (taken : Option PageNo) (reserved reserved' : �
 
 abbrev pub WritesData : ℕ → Option PageNo → ℕ → List ℕ → Pages → Pages → Type 0
 WritesData first None trx bytes = WritesFirst first bytes
-WritesData first (Some page) trx bytes = WritesPage page.0 trx bytes
+WritesData first (Some page) trx bytes = MakesData page.0 trx bytes
 
 -- the entry of a piece's first version, in no list yet
 pub record IsNewEntry (page size trx : ℕ) (e : Entry) : Type 0 where
@@ -161,3 +155,27 @@ pub record IsNewEntry (page size trx : ℕ) (e : Entry) : Type 0 where
 abbrev pub add_room : ℕ
 add_room = (5 + 2 * write_head) + node_room + (page_bytes + write_head) + (60 + write_head)
     + (28 + 5 * write_head)
+
+-- ---- what it may name
+
+-- the page in the address of the first head: there is none, and the bytes need a page of their own;
+-- or there is one, and no page is reserved
+pub record IsNoRoom (told : Option Pages) (first len reserved page at value : ℕ) : Type 0 where
+  pub same_page : page ≡ first
+  pub same_place : at ≡ HEADS + FIRST
+  pub reads : IfSome told (λ pages. value ≡ field pages first (HEADS + FIRST) 4)
+  pub why : ((value ≡ null_page) × (FIRST_ROOM < len)) ⊎ (reserved ≡ 0)
+
+abbrev pub IsOddTaking : PageState → ℕ → ℕ → ℕ → Oddity
+IsOddTaking s first len reserved page at value =
+    IsOddLink s.told s.count first (HEADS + FIRST) page at value
+    ⊎ (IsNoRoom s.told first len reserved page at value
+    ⊎ IsSpentOrOdd s.told s.count page at value)
+
+-- as it stood at the call; or, as the call read it then, what taking a node may name, or the length
+-- of the list of heads or the address of the last
+abbrev pub IsOddAdding : PageState → ℕ → ℕ → ℕ → Oddity
+IsOddAdding s first len reserved page at value =
+    IsOddTaking s first len reserved page at value
+    ⊎ (IsMeanwhile (λ t. IsOddNode t first) s page at value
+    ⊎ IsMeanwhile (λ t. IsOddAtBack t (heads_base first)) s page at value)

@@ -25,8 +25,8 @@ IsRoom type length =
     ((type ≡ FIRST_TYPE) × (FIRST_ROOM < length)) ⊎ ((type ≡ DATA_TYPE) × (DATA_ROOM < length))
 
 -- by the page, the type and the length that were read
-abbrev pub IsOddPlace : Address → ℕ → ℕ → ℕ → ℕ → ℕ → ℕ → Type 0
-IsOddPlace entry data_page type length page at value =
+abbrev pub IsOddDataPlace : Address → ℕ → ℕ → ℕ → ℕ → ℕ → ℕ → Type 0
+IsOddDataPlace entry data_page type length page at value =
     ((page ≡ data_page) × (at ≡ TYPE) × (value ≡ type) × (type ≢ FIRST_TYPE)
     × (type ≢ DATA_TYPE))
     ⊎ ((page ≡ entry.page) × (at ≡ entry.at + LENGTH) × (value ≡ length) × IsRoom type length)
@@ -34,7 +34,7 @@ IsOddPlace entry data_page type length page at value =
 abbrev pub NamesPlace : Address → ℕ → ℕ → ℕ → Fault → Type 0
 NamesPlace entry data_page type length Device = ⊥
 NamesPlace entry data_page type length (Strange page at value) =
-    IsOddPlace entry data_page type length page.0 at value
+    IsOddDataPlace entry data_page type length page.0 at value
 
 -- as these stood at the call
 pub record IsOddData (told : Option Pages) (count : ℕ) (entry : Address)
@@ -47,4 +47,4 @@ pub record IsOddData (told : Option Pages) (count : ℕ) (entry : Address)
   pub part : ((page ≡ entry.page) × (at ≡ entry.at + PAGE) × (value ≡ data_page)
       × (count ≤ data_page))
       ⊎ (IfSome told (λ pages. type ≡ field pages data_page TYPE 2)
-      × IsOddPlace entry data_page type size page at value)
+      × IsOddDataPlace entry data_page type size page at value)

@@ -1,7 +1,7 @@
 // The first page of a LOB as it begins (MySQL 8.0, lob0first.h, `first_page_t`).
 ghost use Rattle.std.specs.Prelude.{◌≡◌, ◌+◌, ◌*◌, ◌<◌, ◌≤◌, ◌^◌, [], ◌∷◌, length, OnOk};
 ghost use Rattle.page_model.specs.Pages.{page_bytes};
-ghost use Rattle.page_model.specs.Spans.{span, SameOutside, SetsField};
+ghost use Rattle.page_model.specs.Spans.{span, SameOutside};
 ghost use Rattle.page_model.specs.Tables.{HasFields, SetsFields};
 ghost use Rattle.page_model.specs.Steps.{MayUse, Uses, Told, write_head};
 ghost use Rattle.engine_base.specs.Faults.{HasCause, FailsPlainly};
@@ -10,11 +10,11 @@ ghost use Rattle.lob_model.specs.declared.layout.TheConstants.{FIRST_ENTRIES, FI
 ghost use Rattle.lob_bytes.specs.Begin.{linked, node_fields, first_fields, AreLinked, MakesFirstPage};
 
 use crate::layout::{FIRST, FIRST_AT, LAST, LAST_AT, LAST_ENTRY, NEXT, NEXT_AT};
-use byteorder::{BigEndian, ByteOrder};
 use engine_base::FieldValue::{Four, Two};
 use engine_base::{
     Addr, Fault, NULL_PAGE, PAGE_BYTES, PageHeader, PageNo, PageType, Pages, fill_fields,
 };
+use lob_index::put_number;
 use lob_model::layout::{
     ENTRY, FIRST_COUNT, FIRST_ENTRIES, FIRST_LENGTH, FREE, HEADS, LAST_CHANGER, LAST_UNDO,
     LOB_CREATOR, LOB_VERSION,
@@ -79,17 +79,6 @@ fn fill_front(bytes: &mut [u8], page: PageNo, trx: TrxId)
             Two(FREE + LAST_AT, LAST_ENTRY),
         ],
     );
-}
-
-/// Writes a number over `width` bytes, the highest first.
-pub fn put_number(bytes: &mut [u8], at: u16, width: u8, value: u64)
-    requires width { (1 ≤ width) × (width ≤ 8) }
-    requires fits { value < 256 ^ width }
-    requires within { at + width ≤ length bytes.old }
-    ensures len { length bytes.new ≡ length bytes.old }
-    ensures sets { SetsField 0 at width value (bytes.old ∷ []) (bytes.new ∷ []) }
-{
-    BigEndian::write_uint(&mut bytes[usize::from(at)..], value, usize::from(width));
 }
 
 // Links entry i to its neighbours.

@@ -1,27 +1,28 @@
 // A piece added to a LOB that is being built.
-ghost use Rattle.std.specs.Prelude.{◌≡◌, ◌+◌, ◌*◌, ◌<◌, ◌≤◌, ◌^◌, ℕ, List, [], ◌∷◌, length, Some, IfOk, IfNone, IfSome, OnOk};
+ghost use Rattle.std.specs.Prelude.{◌≡◌, ◌+◌, ◌*◌, ◌<◌, ◌≤◌, ◌^◌, ℕ, List, [], ◌∷◌, length, Some, IfOk, IfErr, IfNone, IfSome, OnOk};
 ghost use Rattle.page_model.specs.Pages.{Pages, page_bytes};
 ghost use Rattle.page_model.specs.Steps.{MayUse, Uses, Becomes, write_head};
-ghost use Rattle.engine_base.specs.Faults.{HasCause, FailsPlainly};
+ghost use Rattle.engine_base.specs.Faults.{HasCause, FailsPlainly, IsHonest};
 ghost use Rattle.page_space.specs.Map.{IsSize};
 ghost use Rattle.store_data.specs.Store.{Lob};
 ghost use Rattle.lob_model.specs.declared.layout.TheConstants.{FIRST_ROOM, DATA_ROOM};
 ghost use Rattle.lob_pages.specs.Entries.{HasNarrowIds};
-ghost use Rattle.lob_bytes.specs.Growth.{CanAddPiece, AddsPiece, TakesData, WritesData, data_place, IsNewEntry, add_room};
+ghost use Rattle.lob_bytes.specs.Growth.{CanAddPiece, AddsPiece, TakesData, WritesData, data_place, IsNewEntry, IsOddTaking, IsOddAdding, add_room};
 
-use crate::data::{write_data_page, write_first_data};
+use crate::data::write_first_data;
 use crate::layout::FIRST;
 use engine_base::{Addr, Fault, NULL_PAGE, PageNo, Pages, strange};
 use file_lists::{add_last, first};
-use lob_index::take_node;
+use lob_index::{take_node, write_data};
 use lob_model::layout::{FIRST_ROOM, HEADS};
 use lob_pages::{Base, Entry, LobVersion, TrxId, UndoNo, write_entry};
 use page_space::Space;
 
 /// Adds a piece behind the others of a LOB that is being built, the first one in the first page,
 /// each other one in the lowest free page, which uses up one that is reserved; so does the page
-/// that becomes an index page where no node is free. Besides the pages named it touches six, and it
-/// writes 32,886 bytes at most.
+/// that becomes an index page where no node is free. Besides the pages named it touches four, those
+/// of the data, of the node, of the free node behind it and of the last head, and it writes 32,878
+/// bytes at most.
 pub fn add_piece<P: Pages>(
     p: &mut P,
     space: &mut Space,
@@ -33,7 +34,7 @@ pub fn add_piece<P: Pages>(
     requires size { IsSize (P.state p.old).count }
     requires narrow { trx.0 < 2 ^ 48 }
     requires fits { length bytes.now ≤ DATA_ROOM }
-    requires may { MayUse (0 ∷ page.0 ∷ []) 6 add_room (P.state p.old) }
+    requires may { MayUse (0 ∷ page.0 ∷ []) 4 add_room (P.state p.old) }
     ensures adds { (pages : Pages) (lob : Lob)
         → (P.state p.old).told ≡ Some pages → lob.page ≡ page.0
         → CanAddPiece space.old bytes.now pages lob
@@ -42,15 +43,20 @@ pub fn add_piece<P: Pages>(
     // At most two of the reserved pages are used up.
     ensures reserved { (space.new ≤ space.old) × (space.old ≤ space.new + 2) }
 
+    // Strange names the address of the first head or the count of free pages, as it stood at the
+    // call; or, as the call read it then, what taking a node may name, or the length of the list of
+    // heads or the address of the last.
+    ensures honest { IfErr result (IsHonest
+        (IsOddAdding (P.state p.old) page.0 (length bytes.now) space.old)) }
     ensures never { (pages : Pages) (lob : Lob)
         → (P.state p.old).told ≡ Some pages → lob.page ≡ page.0
         → CanAddPiece space.old bytes.now pages lob → FailsPlainly result }
     ensures cause { HasCause (P.state p.old).faults (P.state p.new).faults result }
-    ensures uses { Uses P.state P.stays (0 ∷ page.0 ∷ []) 6 add_room p.old p.new }
+    ensures uses { Uses P.state P.stays (0 ∷ page.0 ∷ []) 4 add_room p.old p.new }
 {
     let taken = take_data_page(p, space, page, bytes.len())?;
     let node = take_node(p, space, page)?;
-    write_data(p, page, taken, trx, bytes)?;
+    write_bytes(p, page, taken, trx, bytes)?;
     let entry = new_entry(place(page, taken), bytes.len() as u32, trx);
     write_entry(p, node, &entry)?;
     add_last(p, Addr { page, at: HEADS }, node)?;
@@ -76,6 +82,8 @@ fn take_data_page<P: Pages>(
     ensures there { IfOk result (λ taken. IfSome taken (λ n. n.0 < (P.state p.old).count)) }
     ensures fits { IfOk result (λ taken. IfNone taken (len ≤ FIRST_ROOM)) }
     ensures reserved { (space.new ≤ space.old) × (space.old ≤ space.new + 1) }
+    ensures honest { IfErr result
+        (IsHonest (IsOddTaking (P.state p.old) page.0 len space.old)) }
     ensures never { (pages : Pages) (lob : Lob) (bytes : List ℕ)
         → (P.state p.old).told ≡ Some pages → lob.page ≡ page.0 → len ≡ length bytes
         → CanAddPiece space.old bytes pages lob → FailsPlainly result }
@@ -107,7 +115,7 @@ fn place(page: PageNo, taken: Option<PageNo>) -> PageNo
 }
 
 // Writes the data of a piece.
-fn write_data<P: Pages>(
+fn write_bytes<P: Pages>(
     p: &mut P,
     page: PageNo,
     taken: Option<PageNo>,
@@ -129,7 +137,7 @@ fn write_data<P: Pages>(
         (page_bytes + write_head) p.old p.new }
 {
     match taken {
-        Some(other) => write_data_page(p, other, trx, bytes),
+        Some(other) => write_data(p, other, trx, bytes),
         None => write_first_data(p, page, bytes),
     }
 }

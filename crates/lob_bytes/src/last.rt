@@ -1,6 +1,6 @@
 // The last piece of a LOB, read.
 ghost use Rattle.std.specs.Prelude.{◌≡◌, ◌+◌, ◌<◌, ◌≤◌, ℕ, List, [], ◌∷◌, ◌++◌, Some, None, IfOk, IfErr, IfSome};
-ghost use Rattle.page_model.specs.Pages.{Pages, Address, field};
+ghost use Rattle.page_model.specs.Pages.{Pages, Address};
 ghost use Rattle.page_model.specs.Lists.{IsList, last_of};
 ghost use Rattle.page_model.specs.Steps.{MayUse, Uses};
 ghost use Rattle.engine_base.specs.Faults.{HasCause, FailsPlainly, IsHonest};
@@ -10,14 +10,14 @@ ghost use Rattle.store_data.specs.Store.{Version, Piece, Lob};
 ghost use Rattle.lob_model.specs.Places.{heads_base};
 ghost use Rattle.lob_model.specs.Changes.{with_pieces};
 ghost use Rattle.lob_model.specs.Lobs.{IsLob};
-ghost use Rattle.lob_model.specs.declared.layout.TheConstants.{PAGE};
 ghost use Rattle.lob_pages.specs.Entries.{FitsPage};
-ghost use Rattle.lob_bytes.specs.Freeing.{ended, IsLast, IsFitLast, IsLastNode, IsOddLast, IsOddDataPage, IsOddRead};
+ghost use Rattle.lob_bytes.specs.Freeing.{ended, IsLast, IsFitLast, IsLastNode, IsOddLast, IsOddRead};
 
 use crate::layout::{LAST_AT, LAST_PLACE};
-use engine_base::{Addr, Fault, PageNo, Pages, read_field, strange};
+use engine_base::{Addr, Fault, PageNo, Pages, strange};
 use file_lists::{last, len};
-use lob_model::layout::{HEADS, PAGE};
+use lob_index::data_page;
+use lob_model::layout::HEADS;
 
 // Its node, the page of its data, and whether there are pieces before it.
 #[derive(Clone, Copy)]
@@ -91,28 +91,4 @@ fn last_node<P: Pages>(p: &mut P, page: PageNo) -> Result<Option<Addr>, Fault>
         return strange(page, HEADS + LAST_AT, u64::from(node.at));
     }
     Ok(Some(node))
-}
-
-// The page of the data of the version whose entry stands there.
-fn data_page<P: Pages>(p: &mut P, entry: Addr) -> Result<PageNo, Fault>
-    requires entry { FitsPage (P.state p.old).count (address_of entry) }
-    requires may { MayUse (entry.page.0 ∷ []) 0 0 (P.state p.old) }
-    ensures value { IfOk result (λ n. IfSome (P.state p.old).told
-        (λ pages. n.0 ≡ field pages entry.page.0 (entry.at + PAGE) 4)) }
-    ensures there { IfOk result (λ n. n.0 < (P.state p.old).count) }
-    ensures honest { IfErr result (IsHonest
-        (IsOddDataPage (P.state p.old).told (P.state p.old).count (address_of entry))) }
-    ensures never { IfSome (P.state p.old).told
-        (λ pages. field pages entry.page.0 (entry.at + PAGE) 4 < (P.state p.old).count
-        → FailsPlainly result) }
-    ensures cause { HasCause (P.state p.old).faults (P.state p.new).faults result }
-    ensures told { (P.state p.new).told ≡ (P.state p.old).told }
-    ensures uses { Uses P.state P.stays (entry.page.0 ∷ []) 0 0 p.old p.new }
-{
-    let count = p.count();
-    let page = read_field(p, entry.page, entry.at + PAGE, 4)?;
-    if page >= u64::from(count) {
-        return strange(entry.page, entry.at + PAGE, page);
-    }
-    Ok(PageNo(page as u32))
 }

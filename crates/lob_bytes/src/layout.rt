@@ -7,8 +7,8 @@
 //! | 4 | 6 | address of the first node | 6 | 6 | address of the node behind |
 //! | 10 | 6 | address of the last node | | | |
 
-use engine_base::{HEADER_BYTES, PAGE_BYTES};
-use lob_model::layout::{DATA, ENTRY, FIRST_COUNT, FIRST_ENTRIES};
+use engine_base::PAGE_BYTES;
+use lob_model::layout::{ENTRY, FIRST_COUNT, FIRST_ENTRIES};
 
 pub const FIRST: u16 = 4;
 
@@ -33,13 +33,3 @@ pub const LAST_PLACE: u16 = PAGE_BYTES as u16 - ENTRY;
 pub const LAST_ENTRY: u16 = FIRST_ENTRIES + ENTRY * (FIRST_COUNT - 1);
 
 const _: () = prove!(LAST_ENTRY == 636);
-
-/// Where the length of the data of a data page stands.
-pub const DATA_LENGTH: u16 = HEADER_BYTES + 1;
-
-/// Where the transaction stands that made it.
-pub const DATA_TRX: u16 = DATA_LENGTH + 4;
-
-const _: () = prove!(DATA_LENGTH == 39);
-
-const _: () = prove!(DATA_TRX + 6 == DATA);

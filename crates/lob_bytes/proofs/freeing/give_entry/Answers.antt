@@ -5,8 +5,9 @@ use Rattle.engine_base.specs.Addresses.{address_of}
 use Rattle.file_lists.specs.Changes.{MakesBase}
 use Rattle.lob_model.specs.Places.{free_base}
 use Rattle.lob_index.specs.Nodes.{GivesNode}
+use Rattle.lob_index.proofs.AnswerLemmas.{on_ok, becomes_on}
 use Rattle.lob_bytes.specs.Freeing.{GivesEntry}
-use Rattle.lob_bytes.proofs.FreeingLemmas.{entry_given, entry_emptied, on_ok, becomes_on}
+use Rattle.lob_bytes.proofs.FreeingLemmas.{entry_given, entry_emptied}
 use Rattle.lob_bytes.proofs.freeing.give_entry.Goals as goal
 
 pub returns-then-left-clause-gives : goal.returns-then-left-clause-gives

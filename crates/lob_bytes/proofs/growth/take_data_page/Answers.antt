@@ -5,6 +5,8 @@ use Rattle.engine_base.specs.declared.addr.Addr.{Addr}
 use Rattle.file_lists.specs.Links.{link_of}
 use Rattle.lob_model.specs.Pieces.{head_place}
 use Rattle.lob_model.specs.Places.{heads_base}
+use Rattle.lob_index.proofs.HonestLemmas.{honest_on}
+use Rattle.lob_bytes.proofs.AddingLemmas.{taking_link, taking_spent}
 use Rattle.lob_bytes.proofs.TakeLemmas.{no_pieces, some_piece, took_none, took_other, take_may, take_uses}
 use Rattle.lob_bytes.proofs.growth.take_data_page.Goals as goal
 
@@ -30,3 +32,13 @@ take-requires-clause-may g c = take_may c.args.page.0 _ _ c.requires.may c.first
 
 pub returns-clause-uses : goal.returns-clause-uses
 returns-clause-uses g c = take_uses c.args.page.0 _ _ g.P.Pages.stays_on _ c.first.ensures.uses c.take.ensures.uses
+
+pub returns-in_err-head-clause-honest : goal.returns-in_err-head-clause-honest
+returns-in_err-head-clause-honest g c =
+    let s = g.P.Pages.state c.args.p.now in
+    honest_on _ _ c.first.result _ _ (taking_link s s c.args.page.0 c.args.len c.args.space.now) c.first.ensures.honest c.in_err-head.was c.from_residual.ensures
+
+pub returns-in_err-taken-clause-honest : goal.returns-in_err-taken-clause-honest
+returns-in_err-taken-clause-honest g c =
+    let s = g.P.Pages.state c.args.p.now in
+    honest_on _ _ c.take.result _ _ (taking_spent s (g.P.Pages.state c.first.new.p) c.args.page.0 c.args.len c.args.space.now c.first.ensures.told c.first.ensures.uses.count) c.take.ensures.honest c.in_err-taken.was c.from_residual-in_err-taken.ensures

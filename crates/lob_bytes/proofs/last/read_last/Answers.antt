@@ -6,7 +6,8 @@ use Rattle.file_lists.specs.Links.{link_of}
 use Rattle.file_lists.proofs.LinkLemmas.{handed_on}
 use Rattle.page_space.proofs.MapLemmas.{at_told}
 use Rattle.lob_model.specs.Pieces.{head_place}
-use Rattle.lob_bytes.proofs.LastLemmas.{last_is, more_than_one, same_some, none_there, bare_heads, heads_of, last_may, data_below, data_is, len_may, data_may, data_uses, named_uses}
+use Rattle.lob_index.proofs.AnswerLemmas.{same_some, none_there}
+use Rattle.lob_bytes.proofs.LastLemmas.{last_is, more_than_one, bare_heads, heads_of, last_may, data_below, data_is, len_may, data_may, data_uses, named_uses}
 use Rattle.lob_bytes.proofs.last.read_last.Goals as goal
 
 pub returns-in_err-node-clause-never : goal.returns-in_err-node-clause-never

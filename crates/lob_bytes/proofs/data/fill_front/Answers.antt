@@ -1,9 +1,0 @@
-use Rattle.std.proofs.Common.{List, [], ◌∷◌, subst}
-use Rattle.page_model.specs.Tables.{Field, SetsFields}
-use Rattle.lob_bytes.proofs.DataLemmas.{front_filled}
-use Rattle.lob_bytes.proofs.data.fill_front.Goals as goal
-
-pub returns-clause-sets : goal.returns-clause-sets
-returns-clause-sets c =
-    let P : List Field → Type 0 = λ t. SetsFields 0 t (c.args.page_bytes.now ∷ []) (c.fill.new.bytes ∷ []) in
-    front_filled c.args.page.0 c.args.trx.0 c.args.size _ _ _ _ (subst P c.alone.ensures c.fill.ensures) c.fill_fields.ensures.sets c.put_number.ensures.sets
