@@ -1,13 +1,10 @@
 pub mod ReachLemmas
 pub mod PieceLemmas
 pub mod StepLemmas
-pub mod OwnLemmas
 pub mod ReleaseLemmas
 pub mod ReadLemmas
-pub mod IndexLemmas
 pub mod DataLemmas
 pub mod LoseLemmas
 pub mod TestLemmas
-pub mod DataPageLemmas
 pub mod PushLemmas
 pub mod PushingLemmas

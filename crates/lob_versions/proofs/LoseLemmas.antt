@@ -32,12 +32,16 @@ use Rattle.store_parts.proofs.KeepLemmas.{keeps_then}
 use Rattle.lob_pages.specs.declared.entry.Entry.{Entry}
 use Rattle.lob_pages.specs.Entries.{HasEntryFields, IsEntryAt, SetsEntryFields}
 use Rattle.lob_index.specs.Use.{AreUsed}
-use Rattle.lob_versions.specs.Releases.{data_given, CanRelease, Releases, IsOddRelease, IsMeanwhile}
+use Rattle.lob_index.specs.Data.{data_given}
+use Rattle.lob_index.specs.Meanwhile.{IsMeanwhile}
+use Rattle.lob_index.proofs.GivenLemmas.{data_one, data_split}
+use Rattle.lob_versions.specs.declared.release.End.{End}
+use Rattle.lob_versions.specs.Releases.{CanRelease, Releases, IsOddRelease}
 use Rattle.lob_versions.specs.declared.drops.Oldest.{Oldest}
-use Rattle.lob_versions.specs.Versions.{LosesVersion, IsOddGiving}
+use Rattle.lob_versions.specs.Versions.{LosesVersion, IsOddGivingUp}
 use Rattle.lob_versions.proofs.PieceLemmas.{version_in, list_in}
-use Rattle.lob_versions.proofs.OwnLemmas.{pages_of, off_join, map_same, used_same, gives_behind, keeps_own}
-use Rattle.lob_versions.proofs.DataLemmas.{data_one, data_split, pages_cut}
+use Rattle.lob_index.proofs.OwnLemmas.{pages_of, off_join, map_same, used_same, gives_behind, keeps_own}
+use Rattle.lob_versions.proofs.DataLemmas.{pages_cut}
 
 -- ---- the bytes of a version list
 
@@ -214,8 +218,8 @@ abbrev all : ℕ → ℕ → ℕ → List ℕ
 all q a f = q ∷ a ∷ f ∷ 0 ∷ []
 
 -- what is read first
-pub may_read : (a f b : ℕ) (s : PageState) → MayUse (a ∷ f ∷ 0 ∷ []) 4 b s → MayUse (a ∷ []) 1 0 s
-may_read a f b s may = may_less (a ∷ f ∷ 0 ∷ []) (a ∷ []) 4 1 b 0 s may (within_left (a ∷ []) (f ∷ 0 ∷ [])) (lit≤ tt) (omega arith)
+pub may_read : (a f b : ℕ) (s : PageState) → MayUse (a ∷ f ∷ 0 ∷ []) 3 b s → MayUse (a ∷ []) 1 0 s
+may_read a f b s may = may_less (a ∷ f ∷ 0 ∷ []) (a ∷ []) 3 1 b 0 s may (within_left (a ∷ []) (f ∷ 0 ∷ [])) (lit≤ tt) (omega arith)
 
 module _ {T : Type 0} {state : T → PageState} {stays : T → T → Type 0} (add : (a b c : T) → stays a b → stays b c → stays a c) (q a f : ℕ) (s t : T) where
   n1 : Uses state stays (q ∷ a ∷ []) 0 0 s t → Uses state stays (all q a f) 0 0 s t
@@ -225,38 +229,38 @@ module _ {T : Type 0} {state : T → PageState} {stays : T → T → Type 0} (ad
   n2 v u1 u2 = uses_within add (all q a f) (a ∷ []) 0 0 0 40 s t v (within_two q a (f ∷ 0 ∷ [])) (n1 u1) u2
 
   -- the fields may be written
-  pub may_write : MayUse (a ∷ f ∷ 0 ∷ []) 4 169 (state s) → Uses state stays (q ∷ a ∷ []) 0 0 s t → MayUse (a ∷ []) 0 40 (state t)
-  may_write may u1 = may_within (all q a f) (a ∷ []) 3 169 0 0 0 40 s t (within_two q a (f ∷ 0 ∷ [])) (lit≤ tt) (lit≤ tt) (may_name q (a ∷ f ∷ 0 ∷ []) 3 169 (state s) may) (n1 u1)
+  pub may_write : MayUse (a ∷ f ∷ 0 ∷ []) 3 169 (state s) → Uses state stays (q ∷ a ∷ []) 0 0 s t → MayUse (a ∷ []) 0 40 (state t)
+  may_write may u1 = may_within (all q a f) (a ∷ []) 2 169 0 0 0 40 s t (within_two q a (f ∷ 0 ∷ [])) (lit≤ tt) (lit≤ tt) (may_name q (a ∷ f ∷ 0 ∷ []) 2 169 (state s) may) (n1 u1)
 
   -- and then the node be given up
-  pub may_give_up : (v : T) → MayUse (a ∷ f ∷ 0 ∷ []) 4 169 (state s) → Uses state stays (q ∷ a ∷ []) 0 0 s t → Uses state stays (a ∷ []) 0 40 t v → MayUse (q ∷ a ∷ f ∷ 0 ∷ []) 3 129 (state v)
-  may_give_up v may u1 u2 = may_within (all q a f) (all q a f) 3 169 0 40 3 129 s v (λ n is. is) (lit≤ tt) (lit≤ tt) (may_name q (a ∷ f ∷ 0 ∷ []) 3 169 (state s) may) (n2 v u1 u2)
+  pub may_give_up : (v : T) → MayUse (a ∷ f ∷ 0 ∷ []) 3 169 (state s) → Uses state stays (q ∷ a ∷ []) 0 0 s t → Uses state stays (a ∷ []) 0 40 t v → MayUse (q ∷ a ∷ f ∷ 0 ∷ []) 2 129 (state v)
+  may_give_up v may u1 u2 = may_within (all q a f) (all q a f) 2 169 0 40 2 129 s v (λ n is. is) (lit≤ tt) (lit≤ tt) (may_name q (a ∷ f ∷ 0 ∷ []) 2 169 (state s) may) (n2 v u1 u2)
 
   -- what was used behind the fields, and in all
-  pub used_write : (v : T) → Uses state stays (q ∷ a ∷ []) 0 0 s t → Uses state stays (a ∷ []) 0 40 t v → Uses state stays (a ∷ f ∷ 0 ∷ []) 4 169 s v
-  used_write v u1 u2 = uses_at_most (a ∷ f ∷ 0 ∷ []) 1 40 4 169 s v (lit≤ tt) (lit≤ tt) (uses_unnamed q (a ∷ f ∷ 0 ∷ []) 0 40 s v (n2 v u1 u2))
+  pub used_write : (v : T) → Uses state stays (q ∷ a ∷ []) 0 0 s t → Uses state stays (a ∷ []) 0 40 t v → Uses state stays (a ∷ f ∷ 0 ∷ []) 3 169 s v
+  used_write v u1 u2 = uses_at_most (a ∷ f ∷ 0 ∷ []) 1 40 3 169 s v (lit≤ tt) (lit≤ tt) (uses_unnamed q (a ∷ f ∷ 0 ∷ []) 0 40 s v (n2 v u1 u2))
 
-  pub used_pop : (v w : T) → Uses state stays (q ∷ a ∷ []) 0 0 s t → Uses state stays (a ∷ []) 0 40 t v → Uses state stays (q ∷ a ∷ f ∷ 0 ∷ []) 3 129 v w → Uses state stays (a ∷ f ∷ 0 ∷ []) 4 169 s w
-  used_pop v w u1 u2 u3 = uses_unnamed q (a ∷ f ∷ 0 ∷ []) 3 169 s w (uses_within add (all q a f) (all q a f) 0 40 3 129 s v w (λ n is. is) (n2 v u1 u2) u3)
+  pub used_pop : (v w : T) → Uses state stays (q ∷ a ∷ []) 0 0 s t → Uses state stays (a ∷ []) 0 40 t v → Uses state stays (q ∷ a ∷ f ∷ 0 ∷ []) 2 129 v w → Uses state stays (a ∷ f ∷ 0 ∷ []) 3 169 s w
+  used_pop v w u1 u2 u3 = uses_unnamed q (a ∷ f ∷ 0 ∷ []) 2 169 s w (uses_within add (all q a f) (all q a f) 0 40 2 129 s v w (λ n is. is) (n2 v u1 u2) u3)
 
   -- the node be given up where no field is written
-  pub may_drop : MayUse (a ∷ f ∷ 0 ∷ []) 4 129 (state s) → Uses state stays (q ∷ a ∷ []) 0 0 s t → MayUse (q ∷ a ∷ f ∷ 0 ∷ []) 3 129 (state t)
-  may_drop may u1 = may_within (all q a f) (all q a f) 3 129 0 0 3 129 s t (λ n is. is) (lit≤ tt) (lit≤ tt) (may_name q (a ∷ f ∷ 0 ∷ []) 3 129 (state s) may) (n1 u1)
+  pub may_drop : MayUse (a ∷ f ∷ 0 ∷ []) 3 129 (state s) → Uses state stays (q ∷ a ∷ []) 0 0 s t → MayUse (q ∷ a ∷ f ∷ 0 ∷ []) 2 129 (state t)
+  may_drop may u1 = may_within (all q a f) (all q a f) 2 129 0 0 2 129 s t (λ n is. is) (lit≤ tt) (lit≤ tt) (may_name q (a ∷ f ∷ 0 ∷ []) 2 129 (state s) may) (n1 u1)
 
-  pub used_drop : (w : T) → Uses state stays (q ∷ a ∷ []) 0 0 s t → Uses state stays (q ∷ a ∷ f ∷ 0 ∷ []) 3 129 t w → Uses state stays (a ∷ f ∷ 0 ∷ []) 4 129 s w
-  used_drop w u1 u3 = uses_unnamed q (a ∷ f ∷ 0 ∷ []) 3 129 s w (uses_within add (all q a f) (all q a f) 0 0 3 129 s t w (λ n is. is) (n1 u1) u3)
+  pub used_drop : (w : T) → Uses state stays (q ∷ a ∷ []) 0 0 s t → Uses state stays (q ∷ a ∷ f ∷ 0 ∷ []) 2 129 t w → Uses state stays (a ∷ f ∷ 0 ∷ []) 3 129 s w
+  used_drop w u1 u3 = uses_unnamed q (a ∷ f ∷ 0 ∷ []) 2 129 s w (uses_within add (all q a f) (all q a f) 0 0 2 129 s t w (λ n is. is) (n1 u1) u3)
 
 -- what was read alone
-pub used_read : {T : Type 0} {state : T → PageState} {stays : T → T → Type 0} (a f b : ℕ) (s t : T) → Uses state stays (a ∷ []) 1 0 s t → Uses state stays (a ∷ f ∷ 0 ∷ []) 4 b s t
-used_read a f b s t u1 = uses_more (a ∷ []) (a ∷ f ∷ 0 ∷ []) 1 4 0 b s t u1 (within_left (a ∷ []) (f ∷ 0 ∷ [])) (lit≤ tt) (omega arith)
+pub used_read : {T : Type 0} {state : T → PageState} {stays : T → T → Type 0} (a f b : ℕ) (s t : T) → Uses state stays (a ∷ []) 1 0 s t → Uses state stays (a ∷ f ∷ 0 ∷ []) 3 b s t
+used_read a f b s t u1 = uses_more (a ∷ []) (a ∷ f ∷ 0 ∷ []) 1 3 0 b s t u1 (within_left (a ∷ []) (f ∷ 0 ∷ [])) (lit≤ tt) (omega arith)
 
 -- ---- faults
 
 -- a fault of giving up the node is one of the call
-pub odd_giving : (P : Oddity) (first : ℕ) (head node : Address) (k : ℕ) (s t : PageState) → t.count ≡ s.count → (f : Fault) → IsHonest (IsOddRelease first head node k t) f
-    → IsHonest (λ page at value. P page at value ⊎ IsMeanwhile (IsOddGiving first head) s page at value) f
-odd_giving P first head node k s t same Device odd = tt
-odd_giving P first head node k s t same (Strange page at value) odd = inr (record { mid = t; same = same; there = (node, k, odd) })
+pub odd_giving : (P : Oddity) (end : End) (first : ℕ) (head node : Address) (k : ℕ) (s t : PageState) → t.count ≡ s.count → (f : Fault) → IsHonest (IsOddRelease end first head node k t) f
+    → IsHonest (λ page at value. P page at value ⊎ IsMeanwhile (IsOddGivingUp end first head) s page at value) f
+odd_giving P end first head node k s t same Device odd = tt
+odd_giving P end first head node k s t same (Strange page at value) odd = inr (record { mid = t; same = same; there = (node, k, odd) })
 
 -- no oldest version is one
 pub none_oldest : {A : Type 0} (o : Oldest) → None ≡ Some o → A

@@ -21,6 +21,9 @@ use Rattle.lob_model.proofs.NodeLemmas.{places_split}
 use Rattle.lob_model.proofs.SplitLemmas.{versions_cut, places_cut, are_split, lists_split}
 use Rattle.lob_model.proofs.CutLemmas.{entries_cut, place_in}
 use Rattle.lob_pages.specs.Entries.{FitsPage}
+use Rattle.std.proofs.lemmas.List.{length-append, length-map}
+use Rattle.page_space.specs.Map.{IsSize}
+use Rattle.lob_index.proofs.IndexLemmas.{few_index}
 use Rattle.lob_versions.specs.Links.{IsEntryLink, IsEntryThere}
 
 abbrev first_or_self : Version → List Version → Version
@@ -140,3 +143,20 @@ entry_plain r told count from at pages x whole is never there =
     allowed : (x : Option Address) → IfSome x (FitsPage (length pages)) → IsEntryThere count (or_null x)
     allowed None place = inl refl
     allowed (Some a) place = let R : ℕ → Type 0 = λ n. FitsPage n a in inr (subst R whole.many place)
+
+-- a piece of a LOB in a store has fewer than 2 ^ 32 versions: each has an entry of the first page or of an index page
+pub few_versions : (pages : Pages) (lob : Lob) (bs : List Piece) (p : Piece) (cs : List Piece) (count : ℕ) → IsLob pages lob → lob.pieces ≡ bs ++ p ∷ cs → length pages ≡ count → IsSize count → length (piece_versions p) < 4_294_967_296
+few_versions pages lob bs p cs count is cut many size =
+    let index = few_index pages lob [] is in
+    let few = size.few in
+    let V : List Piece → ℕ = λ ps. length (versions ps) in
+    let all = ap V cut in
+    let some = ap (λ (vs : List Version). length vs) (versions_cut bs p cs) in
+    let parts = length-append (versions bs) (piece_versions p ++ versions cs) in
+    let last = length-append (piece_versions p) (versions cs) in
+    let places = length-map (versions lob.pieces) place_of in
+    let free = length-append (map place_of (versions lob.pieces)) (lob.free ++ []) in
+    elim is.shape.all [
+      | inl there ↦ omega (arith, there, index, few, many, all, some, parts, last, places, free)
+      | inr none ↦ omega (arith, none, all, some, parts, last, places, free)
+    ]

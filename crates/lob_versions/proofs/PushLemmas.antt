@@ -26,9 +26,9 @@ use Rattle.lob_model.proofs.PushLemmas.{fresh_other, pushed_stands}
 use Rattle.lob_model.proofs.RefillLemmas.{fresh_changed, loose_changed}
 use Rattle.lob_pages.specs.declared.entry.Entry.{Entry}
 use Rattle.lob_pages.specs.Entries.{HasEntryFields, IsEntryAt, SetsEntry, SetsEntryFields}
-use Rattle.lob_versions.specs.DataPages.{MakesData}
+use Rattle.lob_index.specs.Data.{MakesData}
 use Rattle.lob_versions.specs.Pushes.{new_version, IsBareCopy, IsReady, PushesAt}
-use Rattle.lob_versions.proofs.OwnLemmas.{off_join}
+use Rattle.lob_index.proofs.OwnLemmas.{off_join}
 
 -- ---- the LOB but for the node
 

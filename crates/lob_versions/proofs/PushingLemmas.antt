@@ -30,10 +30,11 @@ use Rattle.lob_index.specs.Taking.{index_taken, node_taken, CanTakeNode, TakesNo
 use Rattle.lob_index.proofs.UseLemmas.{one_of, takes_one, takes_both, takes_then, used_taken, used_as}
 use Rattle.lob_versions.specs.Pushes.{new_version, IsReady, PushesAt}
 use Rattle.lob_versions.specs.Pushings.{CanPush, PushesVersion, lob_pushed, IsOddPushing}
-use Rattle.lob_versions.specs.Releases.{data_given}
+use Rattle.lob_index.specs.Data.{data_given}
 use Rattle.lob_versions.specs.Versions.{HasPiece}
-use Rattle.lob_versions.proofs.OwnLemmas.{off_fewer, off_join, map_apart}
-use Rattle.lob_versions.proofs.DataLemmas.{data_one, pages_cut}
+use Rattle.lob_index.proofs.OwnLemmas.{off_fewer, off_join, map_apart}
+use Rattle.lob_index.proofs.GivenLemmas.{data_one}
+use Rattle.lob_versions.proofs.DataLemmas.{pages_cut}
 
 none : {A : Type 0} → 1 ≤ 0 → A
 none h = absurd (omega arith)
@@ -161,8 +162,9 @@ rest_of a f = a ∷ f ∷ 0 ∷ []
 abbrev five : ℕ → ℕ → ℕ → ℕ → List ℕ
 five q d a f = q ∷ d ∷ rest_of a f
 
-node_pages : (q d a f : ℕ) → IsWithin (0 ∷ f ∷ []) (five q d a f)
-node_pages q d a f = within_both (0 ∷ []) (f ∷ []) (five q d a f) (within_right (q ∷ d ∷ a ∷ f ∷ []) (0 ∷ [])) (λ n is. within_right (q ∷ d ∷ a ∷ []) (f ∷ 0 ∷ []) n (within_one f (0 ∷ []) n is))
+node_pages : (q d a f : ℕ) → IsWithin (q ∷ 0 ∷ f ∷ []) (five q d a f)
+node_pages q d a f = within_both (q ∷ []) (0 ∷ f ∷ []) (five q d a f) (within_one q (d ∷ rest_of a f))
+    (within_both (0 ∷ []) (f ∷ []) (five q d a f) (within_right (q ∷ d ∷ a ∷ f ∷ []) (0 ∷ [])) (λ n is. within_right (q ∷ d ∷ a ∷ []) (f ∷ 0 ∷ []) n (within_one f (0 ∷ []) n is)))
 
 map_page : (q d a f : ℕ) → IsWithin (0 ∷ []) (five q d a f)
 map_page q d a f = within_right (q ∷ d ∷ a ∷ f ∷ []) (0 ∷ [])
@@ -171,42 +173,43 @@ push_pages : (q d a f : ℕ) → IsWithin (q ∷ a ∷ d ∷ []) (five q d a f)
 push_pages q d a f = within_both (q ∷ []) (a ∷ d ∷ []) (five q d a f) (within_one q (d ∷ rest_of a f))
     (within_both (a ∷ []) (d ∷ []) (five q d a f) (λ n is. within_right (q ∷ d ∷ []) (rest_of a f) n (within_one a (f ∷ 0 ∷ []) n is)) (within_two q d (rest_of a f)))
 
-named : (q d a f b : ℕ) (s : PageState) → MayUse (rest_of a f) 6 b s → MayUse (five q d a f) 4 b s
-named q d a f b s may = may_name q (d ∷ rest_of a f) 4 b s (may_name d (rest_of a f) 5 b s may)
+named : (q d a f b : ℕ) (s : PageState) → MayUse (rest_of a f) 4 b s → MayUse (five q d a f) 2 b s
+named q d a f b s may = may_name q (d ∷ rest_of a f) 2 b s (may_name d (rest_of a f) 3 b s may)
 
 rest_two : (a f : ℕ) → IsWithin (0 ∷ f ∷ []) (rest_of a f)
 rest_two a f = within_both (0 ∷ []) (f ∷ []) (rest_of a f) (within_right (a ∷ f ∷ []) (0 ∷ [])) (within_two a f (0 ∷ []))
 
 -- the node may be taken
-pub may_take_node : (a f n : ℕ) (s : PageState) → MayUse (a ∷ f ∷ 0 ∷ []) 6 (16_449 + 21 + (169 + n + 72)) s → MayUse (0 ∷ f ∷ []) 3 16_449 s
-may_take_node a f n s may = may_less (rest_of a f) (0 ∷ f ∷ []) 6 3 (16_449 + 21 + (169 + n + 72)) 16_449 s may (rest_two a f) (lit≤ tt) (omega arith)
+pub may_take_node : (a f n : ℕ) (s : PageState) → MayUse (a ∷ f ∷ 0 ∷ []) 4 (16_449 + 21 + (169 + n + 72)) s → MayUse (0 ∷ f ∷ []) 2 16_449 s
+may_take_node a f n s may = may_less (rest_of a f) (0 ∷ f ∷ []) 4 2 (16_449 + 21 + (169 + n + 72)) 16_449 s may (rest_two a f) (lit≤ tt) (omega arith)
+
+-- what was used where no page was taken behind it
+pub used_node : {T : Type 0} {state : T → PageState} {stays : T → T → Type 0} (a f n : ℕ) (s t : T) → Uses state stays (0 ∷ f ∷ []) 2 16_449 s t → Uses state stays (a ∷ f ∷ 0 ∷ []) 4 (16_449 + 21 + (169 + n + 72)) s t
+used_node a f n s t u = uses_more (0 ∷ f ∷ []) (rest_of a f) 2 4 16_449 (16_449 + 21 + (169 + n + 72)) s t u (rest_two a f) (lit≤ tt) (omega arith)
 
 module _ {T : Type 0} {state : T → PageState} {stays : T → T → Type 0} (add : (a b c : T) → stays a b → stays b c → stays a c) (q d a f n : ℕ) (s t1 t2 t3 : T) where
-  k1 : Uses state stays (0 ∷ f ∷ []) 3 16_449 s t1 → Uses state stays (five q d a f) 3 16_449 s t1
-  k1 u1 = uses_more (0 ∷ f ∷ []) (five q d a f) 3 3 16_449 16_449 s t1 u1 (node_pages q d a f) (lit≤ tt) (lit≤ tt)
+  k1 : Uses state stays (q ∷ 0 ∷ f ∷ []) 1 16_449 s t1 → Uses state stays (five q d a f) 1 16_449 s t1
+  k1 u1 = uses_more (q ∷ 0 ∷ f ∷ []) (five q d a f) 1 1 16_449 16_449 s t1 u1 (node_pages q d a f) (lit≤ tt) (lit≤ tt)
 
-  k2 : Uses state stays (0 ∷ f ∷ []) 3 16_449 s t1 → Uses state stays (0 ∷ []) 0 21 t1 t2 → Uses state stays (five q d a f) 3 16_470 s t2
-  k2 u1 u2 = uses_within add (five q d a f) (0 ∷ []) 3 16_449 0 21 s t1 t2 (map_page q d a f) (k1 u1) u2
+  k2 : Uses state stays (q ∷ 0 ∷ f ∷ []) 1 16_449 s t1 → Uses state stays (0 ∷ []) 0 21 t1 t2 → Uses state stays (five q d a f) 1 16_470 s t2
+  k2 u1 u2 = uses_within add (five q d a f) (0 ∷ []) 1 16_449 0 21 s t1 t2 (map_page q d a f) (k1 u1) u2
 
-  out : (k b : ℕ) (t : T) → k ≤ 4 → b ≤ 16_449 + 21 + (169 + n + 72) → Uses state stays (five q d a f) k b s t → Uses state stays (a ∷ f ∷ 0 ∷ []) 6 (16_449 + 21 + (169 + n + 72)) s t
-  out k b t few short u = uses_unnamed d (rest_of a f) 5 (16_449 + 21 + (169 + n + 72)) s t (uses_unnamed q (d ∷ rest_of a f) 4 (16_449 + 21 + (169 + n + 72)) s t (uses_at_most (five q d a f) k b 4 (16_449 + 21 + (169 + n + 72)) s t few short u))
+  out : (k b : ℕ) (t : T) → k ≤ 2 → b ≤ 16_449 + 21 + (169 + n + 72) → Uses state stays (five q d a f) k b s t → Uses state stays (a ∷ f ∷ 0 ∷ []) 4 (16_449 + 21 + (169 + n + 72)) s t
+  out k b t few short u = uses_unnamed d (rest_of a f) 3 (16_449 + 21 + (169 + n + 72)) s t (uses_unnamed q (d ∷ rest_of a f) 2 (16_449 + 21 + (169 + n + 72)) s t (uses_at_most (five q d a f) k b 2 (16_449 + 21 + (169 + n + 72)) s t few short u))
 
   -- the page may be taken, and the version be pushed
-  pub may_take_page : MayUse (a ∷ f ∷ 0 ∷ []) 6 (16_449 + 21 + (169 + n + 72)) (state s) → Uses state stays (0 ∷ f ∷ []) 3 16_449 s t1 → MayUse (0 ∷ []) 0 21 (state t1)
-  may_take_page may u1 = may_within (five q d a f) (0 ∷ []) 4 (16_449 + 21 + (169 + n + 72)) 3 16_449 0 21 s t1 (map_page q d a f) (lit≤ tt) (omega arith) (named q d a f (16_449 + 21 + (169 + n + 72)) (state s) may) (k1 u1)
+  pub may_take_page : MayUse (a ∷ f ∷ 0 ∷ []) 4 (16_449 + 21 + (169 + n + 72)) (state s) → Uses state stays (q ∷ 0 ∷ f ∷ []) 1 16_449 s t1 → MayUse (0 ∷ []) 0 21 (state t1)
+  may_take_page may u1 = may_within (five q d a f) (0 ∷ []) 2 (16_449 + 21 + (169 + n + 72)) 1 16_449 0 21 s t1 (map_page q d a f) (lit≤ tt) (omega arith) (named q d a f (16_449 + 21 + (169 + n + 72)) (state s) may) (k1 u1)
 
-  pub may_push : MayUse (a ∷ f ∷ 0 ∷ []) 6 (16_449 + 21 + (169 + n + 72)) (state s) → Uses state stays (0 ∷ f ∷ []) 3 16_449 s t1 → Uses state stays (0 ∷ []) 0 21 t1 t2 → MayUse (q ∷ a ∷ d ∷ []) 1 (169 + n + 72) (state t2)
-  may_push may u1 u2 = may_within (five q d a f) (q ∷ a ∷ d ∷ []) 4 (16_449 + 21 + (169 + n + 72)) 3 16_470 1 (169 + n + 72) s t2 (push_pages q d a f) (lit≤ tt) (omega arith) (named q d a f (16_449 + 21 + (169 + n + 72)) (state s) may) (k2 u1 u2)
+  pub may_push : MayUse (a ∷ f ∷ 0 ∷ []) 4 (16_449 + 21 + (169 + n + 72)) (state s) → Uses state stays (q ∷ 0 ∷ f ∷ []) 1 16_449 s t1 → Uses state stays (0 ∷ []) 0 21 t1 t2 → MayUse (q ∷ a ∷ d ∷ []) 1 (169 + n + 72) (state t2)
+  may_push may u1 u2 = may_within (five q d a f) (q ∷ a ∷ d ∷ []) 2 (16_449 + 21 + (169 + n + 72)) 1 16_470 1 (169 + n + 72) s t2 (push_pages q d a f) (lit≤ tt) (omega arith) (named q d a f (16_449 + 21 + (169 + n + 72)) (state s) may) (k2 u1 u2)
 
   -- what was used behind each call
-  pub used_node : Uses state stays (0 ∷ f ∷ []) 3 16_449 s t1 → Uses state stays (a ∷ f ∷ 0 ∷ []) 6 (16_449 + 21 + (169 + n + 72)) s t1
-  used_node u1 = out 3 16_449 t1 (lit≤ tt) (omega arith) (k1 u1)
+  pub used_page : Uses state stays (q ∷ 0 ∷ f ∷ []) 1 16_449 s t1 → Uses state stays (0 ∷ []) 0 21 t1 t2 → Uses state stays (a ∷ f ∷ 0 ∷ []) 4 (16_449 + 21 + (169 + n + 72)) s t2
+  used_page u1 u2 = out 1 16_470 t2 (lit≤ tt) (omega arith) (k2 u1 u2)
 
-  pub used_page : Uses state stays (0 ∷ f ∷ []) 3 16_449 s t1 → Uses state stays (0 ∷ []) 0 21 t1 t2 → Uses state stays (a ∷ f ∷ 0 ∷ []) 6 (16_449 + 21 + (169 + n + 72)) s t2
-  used_page u1 u2 = out 3 16_470 t2 (lit≤ tt) (omega arith) (k2 u1 u2)
-
-  pub used_push : Uses state stays (0 ∷ f ∷ []) 3 16_449 s t1 → Uses state stays (0 ∷ []) 0 21 t1 t2 → Uses state stays (q ∷ a ∷ d ∷ []) 1 (169 + n + 72) t2 t3 → Uses state stays (a ∷ f ∷ 0 ∷ []) 6 (16_449 + 21 + (169 + n + 72)) s t3
-  used_push u1 u2 u3 = out 4 (16_470 + (169 + n + 72)) t3 (lit≤ tt) (omega arith) (uses_within add (five q d a f) (q ∷ a ∷ d ∷ []) 3 16_470 1 (169 + n + 72) s t2 t3 (push_pages q d a f) (k2 u1 u2) u3)
+  pub used_push : Uses state stays (q ∷ 0 ∷ f ∷ []) 1 16_449 s t1 → Uses state stays (0 ∷ []) 0 21 t1 t2 → Uses state stays (q ∷ a ∷ d ∷ []) 1 (169 + n + 72) t2 t3 → Uses state stays (a ∷ f ∷ 0 ∷ []) 4 (16_449 + 21 + (169 + n + 72)) s t3
+  used_push u1 u2 u3 = out 2 (16_470 + (169 + n + 72)) t3 (lit≤ tt) (omega arith) (uses_within add (five q d a f) (q ∷ a ∷ d ∷ []) 1 16_470 1 (169 + n + 72) s t2 t3 (push_pages q d a f) (k2 u1 u2) u3)
 
 -- ---- faults
 

@@ -1,5 +1,5 @@
 -- The first and the last older version of a piece, as they are read.
-use Rattle.std.proofs.Common.{◌≡◌, ◌⊎◌, inl, inr, ℕ, ◌+◌, ◌<◌, List, [], ◌∷◌, ◌++◌, length, map, Option, Some, None, IfSome, refl, sym, ap, subst, ◌∙◌, lit≤, arith}
+use Rattle.std.proofs.Common.{◌≡◌, ◌⊎◌, inl, inr, ℕ, ◌+◌, ◌<◌, List, [], ◌∷◌, ◌++◌, length, map, Option, Some, IfSome, refl, sym, ap, subst, ◌∙◌, lit≤, arith}
 use Rattle.page_model.specs.Pages.{Pages, Address, address_at, null_address}
 use Rattle.page_model.specs.Lists.{or_null, last_of, last_or}
 use Rattle.page_model.specs.Steps.{PageState, MayUse, Uses}
@@ -103,25 +103,3 @@ oldest_link pages l bs q cs head is same =
           subst F (sym e) (older_fits pages (with_pieces l (bs ++ q ∷ cs)) bs q cs is refl some.0 some.1 [] some.2)
           )
     ]
-
--- ---- what was read
-
--- two links that are the same
-pub same_some : (a b : Address) → Some a ≡ Some b → a ≡ b
-same_some a b e = subst IsThis e refl
-  where
-    IsThis : Option Address → Type 0
-    IsThis None = ⊥
-    IsThis (Some c) = a ≡ c
-
--- no link is one
-pub none_there : {A : Type 0} (x : Address) → None ≡ Some x → A
-none_there x e = absurd (subst IsNo e tt)
-  where
-    IsNo : Option Address → Type 0
-    IsNo None = Unit {0}
-    IsNo (Some c) = ⊥
-
--- what is said of told pages
-pub at_told : (told : Option Pages) (Q : Pages → Type 0) (pages : Pages) → told ≡ Some pages → IfSome told Q → Q pages
-at_told told Q pages is fact = let P : Option Pages → Type 0 = λ o. IfSome o Q in subst P is fact

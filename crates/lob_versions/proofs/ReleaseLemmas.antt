@@ -1,26 +1,21 @@
 -- A node given up with the page of its version's data, call by call.
-use Rattle.std.proofs.Common.{◌≡◌, ◌≢◌, inl, inr, ℕ, ◌+◌, ◌<◌, ◌≤◌, ◌==◌, List, [], ◌∷◌, ◌++◌, length, Option, Some, Result, Ok, Err, OnOk, sym, ap, subst, ◌∙◌, lit≤, arith}
-use Rattle.std.proofs.lemmas.Bool.{cond-true, cond-false, eq-eqb, ne_eqb}
+use Rattle.std.proofs.Common.{◌≡◌, ◌≢◌, ℕ, ◌+◌, ◌<◌, ◌≤◌, List, [], ◌∷◌, ◌++◌, length, Option, Some, Result, OnOk, refl, sym, ap, subst, lit≤, arith}
 use Rattle.page_model.specs.Pages.{Pages, Address}
 use Rattle.page_model.specs.Spans.{SameOutside}
 use Rattle.page_model.specs.Counts.{times}
-use Rattle.page_model.proofs.CountLemmas.{times_here}
 use Rattle.page_model.specs.Steps.{PageState, IsWithin, MayUse, Uses, Becomes}
-use Rattle.page_model.proofs.FrameLemmas.{outside_wider}
 use Rattle.page_model.proofs.StepLemmas.{may_less, may_within, uses_more, uses_within, uses_at_most, within_left, within_right, within_one, within_both}
 use Rattle.engine_base.specs.declared.fault.Fault.{Fault}
 use Rattle.file_lists.specs.Changes.{ChangesList}
-use Rattle.page_space.specs.Map.{IsUsed, map_spans}
+use Rattle.page_space.specs.Map.{IsUsed}
 use Rattle.store_data.specs.Store.{Lob}
 use Rattle.lob_model.specs.Places.{versions_base}
 use Rattle.lob_model.specs.Lobs.{IsLob, IsLobBut, lob_pages}
-use Rattle.lob_model.proofs.KeptLemmas.{lob_kept}
-use Rattle.store_parts.proofs.KeepLemmas.{keeps_give, keeps_then, keeps_same}
 use Rattle.lob_index.specs.Nodes.{GivesNode}
-use Rattle.lob_index.specs.Use.{GivesPages}
-use Rattle.lob_versions.specs.Releases.{data_given, GivesData, CanRelease, Releases}
-use Rattle.lob_versions.proofs.OwnLemmas.{pages_of, same_twice, same_fewer, bit_same, gives_nothing, gives_behind, keeps_own, map_apart, then_map}
-use Rattle.lob_index.proofs.UseLemmas.{gives_one}
+use Rattle.lob_index.specs.Data.{data_given, GivesData}
+use Rattle.lob_index.proofs.GivenLemmas.{data_used, page_given}
+use Rattle.lob_versions.specs.Releases.{CanRelease, Releases}
+use Rattle.lob_index.proofs.OwnLemmas.{pages_of, same_twice, same_fewer}
 
 -- ---- pages and room
 
@@ -37,33 +32,33 @@ map_in : (q a f : ℕ) → IsWithin (0 ∷ []) (all q a f)
 map_in q a f = within_right (q ∷ a ∷ f ∷ []) (0 ∷ [])
 
 -- the first call may be made
-pub may_one : (q a f : ℕ) (s : PageState) → MayUse (q ∷ a ∷ f ∷ 0 ∷ []) 3 129 s → MayUse (q ∷ a ∷ []) 2 40 s
-may_one q a f s may = may_less (all q a f) (q ∷ a ∷ []) 3 2 129 40 s may (qa q a f) (lit≤ tt) (lit≤ tt)
+pub may_one : (q a f : ℕ) (s : PageState) → MayUse (q ∷ a ∷ f ∷ 0 ∷ []) 2 129 s → MayUse (q ∷ a ∷ []) 1 40 s
+may_one q a f s may = may_less (all q a f) (q ∷ a ∷ []) 2 1 129 40 s may (qa q a f) (lit≤ tt) (lit≤ tt)
 
 module _ {T : Type 0} {state : T → PageState} {stays : T → T → Type 0} (add : (a b c : T) → stays a b → stays b c → stays a c) (q a f : ℕ) (s : T) where
-  r1 : (t : T) → Uses state stays (q ∷ a ∷ []) 2 40 s t → Uses state stays (all q a f) 2 40 s t
-  r1 t u1 = uses_more (q ∷ a ∷ []) (all q a f) 2 2 40 40 s t u1 (qa q a f) (lit≤ tt) (lit≤ tt)
+  r1 : (t : T) → Uses state stays (q ∷ a ∷ []) 1 40 s t → Uses state stays (all q a f) 1 40 s t
+  r1 t u1 = uses_more (q ∷ a ∷ []) (all q a f) 1 1 40 40 s t u1 (qa q a f) (lit≤ tt) (lit≤ tt)
 
-  r2 : (t v : T) → Uses state stays (q ∷ a ∷ []) 2 40 s t → Uses state stays (q ∷ f ∷ []) 1 68 t v → Uses state stays (all q a f) 3 108 s v
-  r2 t v u1 u2 = uses_within add (all q a f) (q ∷ f ∷ []) 2 40 1 68 s t v (qf q a f) (r1 t u1) u2
+  r2 : (t v : T) → Uses state stays (q ∷ a ∷ []) 1 40 s t → Uses state stays (q ∷ f ∷ []) 1 68 t v → Uses state stays (all q a f) 2 108 s v
+  r2 t v u1 u2 = uses_within add (all q a f) (q ∷ f ∷ []) 1 40 1 68 s t v (qf q a f) (r1 t u1) u2
 
   -- so may the second
-  pub may_two : (t : T) → MayUse (q ∷ a ∷ f ∷ 0 ∷ []) 3 129 (state s) → Uses state stays (q ∷ a ∷ []) 2 40 s t → MayUse (q ∷ f ∷ []) 1 68 (state t)
-  may_two t may u1 = may_within (all q a f) (q ∷ f ∷ []) 3 129 2 40 1 68 s t (qf q a f) (lit≤ tt) (lit≤ tt) may (r1 t u1)
+  pub may_two : (t : T) → MayUse (q ∷ a ∷ f ∷ 0 ∷ []) 2 129 (state s) → Uses state stays (q ∷ a ∷ []) 1 40 s t → MayUse (q ∷ f ∷ []) 1 68 (state t)
+  may_two t may u1 = may_within (all q a f) (q ∷ f ∷ []) 2 129 1 40 1 68 s t (qf q a f) (lit≤ tt) (lit≤ tt) may (r1 t u1)
 
   -- and the third
-  pub may_three : (t v : T) → MayUse (q ∷ a ∷ f ∷ 0 ∷ []) 3 129 (state s) → Uses state stays (q ∷ a ∷ []) 2 40 s t → Uses state stays (q ∷ f ∷ []) 1 68 t v → MayUse (0 ∷ []) 0 21 (state v)
-  may_three t v may u1 u2 = may_within (all q a f) (0 ∷ []) 3 129 3 108 0 21 s v (map_in q a f) (lit≤ tt) (lit≤ tt) may (r2 t v u1 u2)
+  pub may_three : (t v : T) → MayUse (q ∷ a ∷ f ∷ 0 ∷ []) 2 129 (state s) → Uses state stays (q ∷ a ∷ []) 1 40 s t → Uses state stays (q ∷ f ∷ []) 1 68 t v → MayUse (0 ∷ []) 0 21 (state v)
+  may_three t v may u1 u2 = may_within (all q a f) (0 ∷ []) 2 129 2 108 0 21 s v (map_in q a f) (lit≤ tt) (lit≤ tt) may (r2 t v u1 u2)
 
   -- what was used behind each of them
-  pub used_one : (t : T) → Uses state stays (q ∷ a ∷ []) 2 40 s t → Uses state stays (q ∷ a ∷ f ∷ 0 ∷ []) 3 129 s t
-  used_one t u1 = uses_at_most (all q a f) 2 40 3 129 s t (lit≤ tt) (lit≤ tt) (r1 t u1)
+  pub used_one : (t : T) → Uses state stays (q ∷ a ∷ []) 1 40 s t → Uses state stays (q ∷ a ∷ f ∷ 0 ∷ []) 2 129 s t
+  used_one t u1 = uses_at_most (all q a f) 1 40 2 129 s t (lit≤ tt) (lit≤ tt) (r1 t u1)
 
-  pub used_two : (t v : T) → Uses state stays (q ∷ a ∷ []) 2 40 s t → Uses state stays (q ∷ f ∷ []) 1 68 t v → Uses state stays (q ∷ a ∷ f ∷ 0 ∷ []) 3 129 s v
-  used_two t v u1 u2 = uses_at_most (all q a f) 3 108 3 129 s v (lit≤ tt) (lit≤ tt) (r2 t v u1 u2)
+  pub used_two : (t v : T) → Uses state stays (q ∷ a ∷ []) 1 40 s t → Uses state stays (q ∷ f ∷ []) 1 68 t v → Uses state stays (q ∷ a ∷ f ∷ 0 ∷ []) 2 129 s v
+  used_two t v u1 u2 = uses_at_most (all q a f) 2 108 2 129 s v (lit≤ tt) (lit≤ tt) (r2 t v u1 u2)
 
-  pub used_three : (t v w : T) → Uses state stays (q ∷ a ∷ []) 2 40 s t → Uses state stays (q ∷ f ∷ []) 1 68 t v → Uses state stays (0 ∷ []) 0 21 v w → Uses state stays (q ∷ a ∷ f ∷ 0 ∷ []) 3 129 s w
-  used_three t v w u1 u2 u3 = uses_within add (all q a f) (0 ∷ []) 3 108 0 21 s v w (map_in q a f) (r2 t v u1 u2) u3
+  pub used_three : (t v w : T) → Uses state stays (q ∷ a ∷ []) 1 40 s t → Uses state stays (q ∷ f ∷ []) 1 68 t v → Uses state stays (0 ∷ []) 0 21 v w → Uses state stays (q ∷ a ∷ f ∷ 0 ∷ []) 2 129 s w
+  used_three t v w u1 u2 u3 = uses_within add (all q a f) (0 ∷ []) 2 108 0 21 s v w (map_in q a f) (r2 t v u1 u2) u3
 
 -- ---- the pages
 
@@ -92,42 +87,34 @@ node_given told1 told2 pages own lob head node before behind page can removed ga
     )
 
 -- the page of the data is used, unless it is the first one
-pub data_used : (pages mid : Pages) (own : List ℕ) (lob : Lob) (head node : Address) (before behind : List Address) (page : ℕ) → CanRelease own lob head node before behind page pages → SameOutside (pages_of own) pages mid
+pub page_used : (pages mid : Pages) (own : List ℕ) (lob : Lob) (head node : Address) (before behind : List Address) (page : ℕ) → CanRelease own lob head node before behind page pages → SameOutside (pages_of own) pages mid
     → page ≢ lob.page → IsUsed mid page
-data_used pages mid own lob head node before behind page can same other =
-    bit_same own pages mid can.used.other same page ∙ can.used.each page (let c = can.cut page in let h = times_here page [] in let e : times page (data_given lob.page page) ≡ times page (page ∷ []) = ap (times page) (cond-false (page == lob.page) [] (page ∷ []) (ne_eqb page lob.page other)) in omega (arith, c, h, e))
+page_used pages mid own lob head node before behind page can same = data_used own own lob page pages mid can.used can.cut (λ n. omega arith) same
 
 -- with the data's page given back, or being the first one, the version is released
 pub released : (pages mid new : Pages) (own : List ℕ) (lob : Lob) (head node : Address) (before behind : List Address) (page : ℕ) → page < length pages → CanRelease own lob head node before behind page pages
     → NodeGiven own lob node pages mid → GivesData lob.page page mid new → Releases own lob node page pages new
-released pages mid new own lob head node before behind page there can given (inl stays) =
-    let e : data_given lob.page page ≡ [] = cond-true (page == lob.page) [] (page ∷ []) (eq-eqb page lob.page stays.0) in
-    let R : Pages → Type 0 = λ ps. Releases own lob node page pages ps in
-    subst R (sym stays.1) (record {
-      lob' = given.lob';
-      gives = subst (λ (ns : List ℕ). GivesPages ns pages mid) (sym e) (gives_nothing own pages mid can.used.other given.same can.map');
-      outside = outside_wider (pages_of own) (map_spans ++ pages_of own) pages mid (λ n k off. off.1.1) given.same;
-      keeps = keeps_then [] own own (lob_pages lob) pages mid mid (keeps_own own pages mid can.used.other given.same)
-          (keeps_same [] own (lob_pages lob) mid (λ n. let c = can.cut n in let z : times n (data_given lob.page page) ≡ 0 = ap (times n) e in omega (arith, c, z)));
-    })
-released pages mid new own lob head node before behind page there can given (inr gives) =
-    let e : data_given lob.page page ≡ page ∷ [] = cond-false (page == lob.page) [] (page ∷ []) (ne_eqb page lob.page gives.0) in
-    let cut : (n : ℕ) → times n own ≡ times n (page ∷ []) + times n (lob_pages lob) = λ n. let c = can.cut n in let z : times n (data_given lob.page page) ≡ times n (page ∷ []) = ap (times n) e in omega (arith, c, z) in
-    let clear : times 0 (lob_pages lob) ≡ 0 = let c = can.cut 0 in let o = can.used.other in omega (arith, c, o) in
-    let few = can.map'.size.few in
-    record {
-      lob' = lob_kept _ mid new (record lob { free = node ∷ lob.free }) gives.1.change.outside (map_apart (lob_pages lob) page clear) given.lob';
-      gives = subst (λ (ns : List ℕ). GivesPages ns pages new) (sym e)
-          (gives_behind own pages mid can.used.other given.same (page ∷ []) new (gives_one page mid new (data_used pages mid own lob head node before behind page can given.same gives.0) gives.1));
-      outside = then_map own page pages mid new (omega (arith, there, few)) given.same gives.1.change.outside;
-      keeps = keeps_then [] own own (lob_pages lob) pages mid new (keeps_own own pages mid can.used.other given.same) (keeps_give [] own (lob_pages lob) page mid new (λ n. omega arith) cut gives.1);
-    }
+released pages mid new own lob head node before behind page there can given gives =
+    let r = page_given own own (record lob { free = node ∷ lob.free }) page pages mid can.used can.cut (λ n. omega arith) given.same new there can.map' given.lob' gives in
+    record { lob' = r.lob'; gives = r.gives; outside = r.outside; keeps = r.keeps }
 
--- what an Ok answer gives, it gives of what follows from it
-pub on_ok : {A : Type 0} (P Q : Type 0) (r : Result A Fault) → (P → Q) → OnOk r P → OnOk r Q
-on_ok P Q (Ok a) so p = so p
-on_ok P Q (Err e) so p = tt
+-- ---- a node at an end
 
--- what pages become, they become of what follows from it
-pub becomes_on : (P Q : Pages → Type 0) (told : Option Pages) → ((pages : Pages) → P pages → Q pages) → Becomes told P → Becomes told Q
-becomes_on P Q told so is = (is.0, is.1, so is.0 is.2)
+nothing_more : (xs : List Address) → xs ++ [] ≡ xs
+nothing_more [] = refl
+nothing_more (x ∷ xs) = ap (λ (ys : List Address). x ∷ ys) (nothing_more xs)
+
+-- what holds of a list that begins with the node holds where nothing is before it
+pub at_first : (P : List Address → List Address → Type 0) (before behind : List Address) → before ≡ [] → P [] behind → P before behind
+at_first P before behind none is = let Q : List Address → Type 0 = λ xs. P xs behind in subst Q (sym none) is
+
+-- what holds of a list that ends with the node holds where nothing is behind it
+pub at_last : (P : List Address → List Address → Type 0) (before behind : List Address) → behind ≡ [] → P before [] → P before behind
+at_last P before behind none is = let Q : List Address → Type 0 = λ xs. P before xs in subst Q (sym none) is
+
+-- the list without its last node
+pub but_last : {A : Type 0} (r : Result A Fault) (told : Option Pages) (pages : Pages) (base node : Address) (before : List Address) → OnOk r (Becomes told (ChangesList base (before ++ node ∷ []) before pages))
+    → OnOk r (Becomes told (ChangesList base (before ++ node ∷ []) (before ++ []) pages))
+but_last r told pages base node before is =
+    let P : List Address → Type 0 = λ ns. OnOk r (Becomes told (ChangesList base (before ++ node ∷ []) ns pages)) in
+    subst P (sym (nothing_more before)) is

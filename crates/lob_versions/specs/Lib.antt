@@ -3,6 +3,5 @@ pub mod Links
 pub mod Along
 pub mod Releases
 pub mod Versions
-pub mod DataPages
 pub mod Pushes
 pub mod Pushings

@@ -17,7 +17,7 @@ use Rattle.lob_model.specs.Changes.{with_pieces}
 use Rattle.lob_model.specs.Places.{versions_base, whole_page}
 use Rattle.lob_model.specs.declared.layout.TheConstants.{DATA}
 use Rattle.lob_pages.specs.declared.entry.Entry.{Entry}
-use Rattle.lob_versions.specs.Releases.{IsMeanwhile}
+use Rattle.lob_index.specs.Meanwhile.{IsMeanwhile}
 
 -- made by one transaction, of which no undo number is told
 abbrev pub new_version : Address → ℕ → ℕ → ℕ → List ℕ → Version

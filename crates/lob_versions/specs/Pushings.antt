@@ -16,7 +16,7 @@ use Rattle.lob_model.specs.Changes.{with_pieces}
 use Rattle.store_parts.specs.Keeps.{Keeps}
 use Rattle.lob_index.specs.Use.{TakesPages}
 use Rattle.lob_index.specs.Taking.{index_taken, free_with, node_taken, node_room, IsNoNode, IsOddNode}
-use Rattle.lob_versions.specs.Releases.{IsMeanwhile}
+use Rattle.lob_index.specs.Meanwhile.{IsMeanwhile}
 use Rattle.lob_versions.specs.Pushes.{new_version, IsOddPush}
 
 pub record CanPush (reserved : ℕ) (pages : Pages) (l : Lob) (q : Piece) (v : ℕ)

@@ -1,41 +1,33 @@
 -- A node given up with the page of its version's data.
---     data_given first page      the page of a version's data, where it isn't the LOB's first page
+--     IsAt      the node stands at that end of the list
 --     CanRelease, Releases      the node is taken out of a version list, and is the first of the
 --         free ones; the page of the data is free
 --     IsOddRelease      what that may name
-use Rattle.std.specs.Prelude.{◌≡◌, ◌≢◌, ◌⊎◌, ℕ, ◌+◌, ◌≤◌, ◌==◌, cond, List, [], ◌∷◌, ◌++◌, map, Option, IfSome}
-use Rattle.page_model.specs.Pages.{Pages, Address, field}
+use Rattle.std.specs.Prelude.{◌≡◌, ◌⊎◌, ℕ, ◌+◌, List, [], ◌∷◌, ◌++◌, map}
+use Rattle.page_model.specs.Pages.{Pages, Address}
 use Rattle.page_model.specs.Spans.{SameOutside}
 use Rattle.page_model.specs.Lists.{IsList}
 use Rattle.page_model.specs.Counts.{times}
 use Rattle.page_model.specs.Steps.{PageState}
 use Rattle.engine_base.specs.Faults.{Oddity}
 use Rattle.file_lists.specs.Changes.{ChangesList}
-use Rattle.file_lists.specs.Strange.{IsOddAround, IsOddAtFront}
-use Rattle.page_space.specs.Map.{IsMap, map_spans, GivesPage}
+use Rattle.file_lists.specs.Strange.{IsOddBehind, IsOddBefore, IsOddAtFront}
+use Rattle.page_space.specs.Map.{IsMap, map_spans}
 use Rattle.page_space.specs.Answers.{IsRaisedOrNotUsed}
 use Rattle.store_data.specs.Store.{Lob}
 use Rattle.lob_model.specs.Places.{free_base, versions_base, whole_page}
 use Rattle.lob_model.specs.Lobs.{IsLob, IsLobBut, lob_pages}
-use Rattle.lob_model.specs.declared.layout.TheConstants.{PAGE}
 use Rattle.store_parts.specs.Keeps.{Keeps}
 use Rattle.lob_index.specs.Use.{AreUsed, GivesPages}
+use Rattle.lob_index.specs.Data.{data_given}
+use Rattle.lob_index.specs.Meanwhile.{IsMeanwhile}
+use Rattle.lob_versions.specs.declared.release.End.{End}
+use Rattle.lob_versions.specs.declared.release.End.TheVariants.{First, Last}
 
--- the page of the data in the entry there isn't one
-pub record IsOddData (told : Option Pages) (count : ℕ) (entry : Address)
-    (page at value : ℕ) : Type 0 where
-  pub same_page : page ≡ entry.page
-  pub same_place : at ≡ entry.at + PAGE
-  pub reads : IfSome told (λ pages. value ≡ field pages entry.page (entry.at + PAGE) 4)
-  pub above : count ≤ value
-
--- the first page stays where its data goes
-abbrev pub data_given : ℕ → ℕ → List ℕ
-data_given first page = cond (page == first) [] (page ∷ [])
-
-abbrev pub GivesData : ℕ → ℕ → Pages → Pages → Type 0
-GivesData first page old new =
-    ((page ≡ first) × (new ≡ old)) ⊎ ((page ≢ first) × GivesPage page old new)
+-- the node is the first of the list, or its last one
+abbrev pub IsAt : End → List Address → List Address → Type 0
+IsAt First before behind = before ≡ []
+IsAt Last before behind = behind ≡ []
 
 -- the pages `own` are a LOB's, which without the node in this version list, and without the page of
 -- its data, is `lob`
@@ -59,18 +51,16 @@ pub record Releases (own : List ℕ) (lob : Lob) (node : Address) (page : ℕ)
 
 -- ---- what it may name
 
--- the same of pages that the call made of those at its start
-pub record IsMeanwhile (odd : PageState → Oddity) (s : PageState)
-    (page at value : ℕ) : Type 0 where
-  pub mid : PageState
-  pub same : mid.count ≡ s.count
-  pub there : odd mid page at value
+-- the length of the list, or the address of the one neighbour
+abbrev pub IsOddAtEnd : End → PageState → Address → Address → Oddity
+IsOddAtEnd First = IsOddBehind
+IsOddAtEnd Last = IsOddBefore
 
--- the length of the version list or an address in the node, as either stood at the call; or, as the
--- call read them then, the length of the list of free nodes, the address of the first, the count of
--- free pages, or the byte of the map with the page's bit
-abbrev pub IsOddRelease : ℕ → Address → Address → ℕ → PageState → Oddity
-IsOddRelease first head node page s page' at value =
-    IsOddAround s (versions_base head) node page' at value
+-- the length of the version list or the address in the node, as either stood at the call; or, as
+-- the call read them then, the length of the list of free nodes, the address of the first, the
+-- count of free pages, or the byte of the map with the page's bit
+abbrev pub IsOddRelease : End → ℕ → Address → Address → ℕ → PageState → Oddity
+IsOddRelease end first head node page s page' at value =
+    IsOddAtEnd end s (versions_base head) node page' at value
     ⊎ (IsMeanwhile (λ t. IsOddAtFront t (free_base first)) s page' at value
     ⊎ IsMeanwhile (λ t. IsRaisedOrNotUsed t.told t.count page) s page' at value)

@@ -20,7 +20,11 @@ use Rattle.lob_index.specs.Use.{AreUsed, GivesPages}
 use Rattle.lob_versions.specs.declared.pops.Newest.{Newest}
 use Rattle.lob_versions.specs.declared.drops.Oldest.{Oldest}
 use Rattle.lob_versions.specs.Links.{IsOddEntryLink}
-use Rattle.lob_versions.specs.Releases.{data_given, IsOddData, IsMeanwhile, IsOddRelease}
+use Rattle.lob_index.specs.Data.{data_given, IsOddDataPage}
+use Rattle.lob_index.specs.Meanwhile.{IsMeanwhile}
+use Rattle.lob_versions.specs.declared.release.End.{End}
+use Rattle.lob_versions.specs.declared.release.End.TheVariants.{First, Last}
+use Rattle.lob_versions.specs.Releases.{IsOddRelease}
 
 pub record HasPiece (told : Option Pages) (first : ℕ) (head : Address) (pages : Pages) (l : Lob)
     (bs : List Piece) (p : Piece) (cs : List Piece) : Type 0 where
@@ -76,26 +80,26 @@ pub record IsNoOlder (told : Option Pages) (head : Address) (page at value : ℕ
 abbrev pub IsOddNewest : Option Pages → ℕ → Address → Oddity
 IsOddNewest told count head page at value =
     IsOddEntryLink told count head.page (head.at + VERSIONS + 4) page at value
-    ⊎ (IsNoOlder told head page at value ⊎ IsOddData told count head page at value)
+    ⊎ (IsNoOlder told head page at value ⊎ IsOddDataPage told count head page at value)
 
 abbrev pub IsOddOldest : Option Pages → ℕ → Address → Oddity
 IsOddOldest told count head page at value =
     IsOddEntryLink told count head.page (head.at + VERSIONS + 10) page at value
-    ⊎ ((node : Address) × IsOddData told count node page at value)
+    ⊎ ((node : Address) × IsOddDataPage told count node page at value)
 
 -- what giving up some node may name
-abbrev pub IsOddGiving : ℕ → Address → PageState → Oddity
-IsOddGiving first head s page at value =
-    (node : Address) × (k : ℕ) × IsOddRelease first head node k s page at value
+abbrev pub IsOddGivingUp : End → ℕ → Address → PageState → Oddity
+IsOddGivingUp end first head s page at value =
+    (node : Address) × (k : ℕ) × IsOddRelease end first head node k s page at value
 
 -- an address or a page that is read before the first write, as it stood at the call; or what giving
 -- up the node may name
 abbrev pub IsOddPop : ℕ → Address → PageState → Oddity
 IsOddPop first head s page at value =
     IsOddNewest s.told s.count head page at value
-    ⊎ IsMeanwhile (IsOddGiving first head) s page at value
+    ⊎ IsMeanwhile (IsOddGivingUp First first head) s page at value
 
 abbrev pub IsOddDrop : ℕ → Address → PageState → Oddity
 IsOddDrop first head s page at value =
     IsOddOldest s.told s.count head page at value
-    ⊎ IsMeanwhile (IsOddGiving first head) s page at value
+    ⊎ IsMeanwhile (IsOddGivingUp Last first head) s page at value

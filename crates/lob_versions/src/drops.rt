@@ -13,8 +13,9 @@ ghost use Rattle.lob_pages.specs.Entries.{FitsPage};
 ghost use Rattle.lob_versions.specs.Versions.{HasPiece, LosesVersion, IsOldest, IsFitOldest, IsOddOldest, IsOddDrop};
 
 use crate::links::{LAST, entry_at};
-use crate::release::{data_page, release};
+use crate::release::{End, release};
 use engine_base::{Addr, Fault, PageNo, Pages, read_field};
+use lob_index::data_page;
 use lob_model::layout::{VERSION, VERSIONS};
 use lob_pages::LobVersion;
 use page_space::Space;
@@ -22,7 +23,7 @@ use page_space::Space;
 /// Gives up the oldest version of a piece where it isn't the head and its number is at most v, and
 /// answers whether it did. Its node is the first of the free ones then, and the page of its data is
 /// given back, unless it is the LOB's first page. Touches page 0 and, besides the pages named, at
-/// most four: those of the node, of its neighbours and of the first free node; writes 49 bytes in
+/// most three: those of the node, of the node before and of the first free node; writes 49 bytes in
 /// ten writes.
 pub fn drop_oldest<P: Pages>(
     p: &mut P,
@@ -34,7 +35,7 @@ pub fn drop_oldest<P: Pages>(
     requires first { first.0 < (P.state p.old).count }
     requires head { FitsPage (P.state p.old).count (address_of head) }
     requires size { IsSize (P.state p.old).count }
-    requires may { MayUse (head.page.0 ∷ first.0 ∷ 0 ∷ []) 4
+    requires may { MayUse (head.page.0 ∷ first.0 ∷ 0 ∷ []) 3
         (49 + 10 * write_head) (P.state p.old) }
     ensures drops { (pages : Pages) (l : Lob) (bs : List Piece) (h : Version)
         (ys : List Version) (x : Version) (cs : List Piece)
@@ -62,13 +63,13 @@ pub fn drop_oldest<P: Pages>(
         → HasPiece (P.state p.old).told first.0 (address_of head) pages l bs q cs
         → FailsPlainly result }
     ensures cause { HasCause (P.state p.old).faults (P.state p.new).faults result }
-    ensures uses { Uses P.state P.stays (head.page.0 ∷ first.0 ∷ 0 ∷ []) 4
+    ensures uses { Uses P.state P.stays (head.page.0 ∷ first.0 ∷ 0 ∷ []) 3
         (49 + 10 * write_head) p.old p.new }
 {
     let Some(oldest) = read_oldest(p, head, v)? else {
         return Ok(false);
     };
-    release(p, space, first, head, oldest.node, oldest.page)?;
+    release(p, space, first, head, oldest.node, oldest.page, End::Last)?;
     Ok(true)
 }
 

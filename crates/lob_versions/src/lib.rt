@@ -2,7 +2,6 @@
 //! dropped.
 #![tactic(auto)]
 
-mod data;
 mod drops;
 mod links;
 mod pops;

@@ -13,8 +13,9 @@ ghost use Rattle.lob_pages.specs.Entries.{FitsPage};
 ghost use Rattle.lob_versions.specs.Versions.{HasPiece, LosesVersion, IsNewest, IsFitNewest, IsOddNewest, IsOddPop};
 
 use crate::links::{FIRST, entry_at};
-use crate::release::{data_page, release};
+use crate::release::{End, release};
 use engine_base::{Addr, Fault, NULL_PAGE, PageNo, Pages, strange};
+use lob_index::data_page;
 use lob_model::layout::VERSIONS;
 use lob_pages::{Entry, read_entry, write_fields};
 use page_space::Space;
@@ -22,8 +23,8 @@ use page_space::Space;
 /// Takes back the newest version of a piece: the head has the fields of the first older version
 /// again, whose node is the first of the free ones, and the page of the data that goes is given
 /// back, unless it is the LOB's first page. Answers the node. Where there is no older version the
-/// null address of the list is Strange. Touches page 0 and, besides the pages named, at most four:
-/// those of the node, of its neighbours and of the first free node; writes 81 bytes in eleven
+/// null address of the list is Strange. Touches page 0 and, besides the pages named, at most three:
+/// those of the node, of the node behind and of the first free node; writes 81 bytes in eleven
 /// writes.
 pub fn pop_version<P: Pages>(
     p: &mut P,
@@ -34,7 +35,7 @@ pub fn pop_version<P: Pages>(
     requires first { first.0 < (P.state p.old).count }
     requires head { FitsPage (P.state p.old).count (address_of head) }
     requires size { IsSize (P.state p.old).count }
-    requires may { MayUse (head.page.0 ∷ first.0 ∷ 0 ∷ []) 4
+    requires may { MayUse (head.page.0 ∷ first.0 ∷ 0 ∷ []) 3
         (81 + 11 * write_head) (P.state p.old) }
     ensures pops { (pages : Pages) (l : Lob) (bs : List Piece) (h x : Version)
         (more : List Version) (cs : List Piece)
@@ -55,12 +56,12 @@ pub fn pop_version<P: Pages>(
         → HasPiece (P.state p.old).told first.0 (address_of head) pages l bs
         (piece h (x ∷ more)) cs → FailsPlainly result }
     ensures cause { HasCause (P.state p.old).faults (P.state p.new).faults result }
-    ensures uses { Uses P.state P.stays (head.page.0 ∷ first.0 ∷ 0 ∷ []) 4
+    ensures uses { Uses P.state P.stays (head.page.0 ∷ first.0 ∷ 0 ∷ []) 3
         (81 + 11 * write_head) p.old p.new }
 {
     let newest = read_newest(p, head)?;
     write_fields(p, head, &newest.fields)?;
-    release(p, space, first, head, newest.node, newest.page)?;
+    release(p, space, first, head, newest.node, newest.page, End::First)?;
     Ok(newest.node)
 }
 

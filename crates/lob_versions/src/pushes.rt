@@ -12,11 +12,10 @@ ghost use Rattle.lob_versions.specs.Pushes.{new_version, IsBareCopy, IsReady, Pu
 ghost use Rattle.lob_versions.specs.Pushings.{CanPush, PushesVersion, push_room, IsOddPushing};
 ghost use Rattle.lob_versions.specs.Versions.{HasPiece};
 
-use crate::data::write_data;
 use crate::links::FIRST;
 use engine_base::{Addr, Fault, NULL_PAGE, PageNo, Pages, strange};
 use file_lists::add_first;
-use lob_index::take_node;
+use lob_index::{take_node, write_data};
 use lob_model::layout::{FREE, VERSIONS};
 use lob_pages::{Base, Entry, LobVersion, TrxId, UndoNo, read_entry, write_entry, write_fields};
 use page_space::Space;
@@ -24,8 +23,8 @@ use page_space::Space;
 /// Pushes a version of a piece: the head has the new number, transaction and bytes then, and its
 /// fields before stand in a node, which is the first of its version list. It takes a node and a
 /// page for the data, which uses up a page that is reserved, and two where no node is free; where
-/// one is needed and none is left it is Strange. Besides the pages named it touches at most six:
-/// three to take the node, that of the node, that of the data, and that of the first older version.
+/// one is needed and none is left it is Strange. Besides the pages named it touches at most four:
+/// those of the node, of the free node behind it, of the data, and of the first older version.
 pub fn push_version<P: Pages>(
     p: &mut P,
     space: &mut Space,
@@ -40,7 +39,7 @@ pub fn push_version<P: Pages>(
     requires size { IsSize (P.state p.old).count }
     requires narrow { trx.0 < 2 ^ 48 }
     requires fits { length bytes.now ≤ DATA_ROOM }
-    requires may { MayUse (head.page.0 ∷ first.0 ∷ 0 ∷ []) 6
+    requires may { MayUse (head.page.0 ∷ first.0 ∷ 0 ∷ []) 4
         (push_room (length bytes.now)) (P.state p.old) }
     ensures pushes { (pages : Pages) (l : Lob) (bs : List Piece) (q : Piece) (cs : List Piece)
         → HasPiece (P.state p.old).told first.0 (address_of head) pages l bs q cs
@@ -59,7 +58,7 @@ pub fn push_version<P: Pages>(
         → HasPiece (P.state p.old).told first.0 (address_of head) pages l bs q cs
         → CanPush space.old pages l q v.0 bytes.now → FailsPlainly result }
     ensures cause { HasCause (P.state p.old).faults (P.state p.new).faults result }
-    ensures uses { Uses P.state P.stays (head.page.0 ∷ first.0 ∷ 0 ∷ []) 6
+    ensures uses { Uses P.state P.stays (head.page.0 ∷ first.0 ∷ 0 ∷ []) 4
         (push_room (length bytes.now)) p.old p.new }
 {
     let node = take_node(p, space, first)?;

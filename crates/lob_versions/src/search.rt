@@ -1,9 +1,10 @@
 // A version of a piece sought by its number, and the versions of a piece counted.
-ghost use Rattle.std.specs.Prelude.{◌≡◌, ◌+◌, ◌<◌, ◌≤◌, ◌^◌, List, [], ◌∷◌, length, IfOk, IfErr};
+ghost use Rattle.std.specs.Prelude.{◌≡◌, ◌+◌, ◌<◌, ◌≤◌, List, [], ◌∷◌, length, IfOk, IfErr};
 ghost use Rattle.page_model.specs.Pages.{Pages};
 ghost use Rattle.page_model.specs.Steps.{MayUse, Uses};
 ghost use Rattle.engine_base.specs.Faults.{HasCause, FailsPlainly, IsHonest};
 ghost use Rattle.engine_base.specs.Addresses.{address_of};
+ghost use Rattle.page_space.specs.Map.{IsSize};
 ghost use Rattle.store_data.specs.Store.{Version, Piece, Lob};
 ghost use Rattle.lob_model.specs.Pieces.{piece_versions};
 ghost use Rattle.lob_model.specs.Search.{sought};
@@ -67,14 +68,15 @@ pub fn find_version<P: Pages>(
     Ok(Found::More(node))
 }
 
-/// How many versions a piece has, the head counted. A list of 4,294,967,295 older ones, which no
-/// store has room for, counts as that many. Touches the page of the head, and writes nothing.
+/// How many versions a piece has, the head counted. A list whose length says 4,294,967,295, which
+/// is that of no LOB in a store of at most 32,768 pages, counts as that many. Touches the page of
+/// the head, and writes nothing.
 pub fn count<P: Pages>(p: &mut P, head: Addr) -> Result<u32, Fault>
     requires head { FitsPage (P.state p.old).count (address_of head) }
     requires may { MayUse (head.page.0 ∷ []) 0 0 (P.state p.old) }
     ensures counts { (pages : Pages) (lob : Lob) (piece : Piece)
         → IsSearch (P.state p.old).told (address_of head) (address_of head) pages lob piece
-        piece.head piece.older → length (piece_versions piece) < 2 ^ 32
+        piece.head piece.older → IsSize (P.state p.old).count
         → IfOk result (λ n. n ≡ length (piece_versions piece)) }
     ensures plain { FailsPlainly result }
     ensures cause { HasCause (P.state p.old).faults (P.state p.new).faults result }

@@ -13,7 +13,8 @@ use Rattle.lob_versions.specs.declared.drops.Oldest.{Oldest}
 use Rattle.lob_versions.specs.Releases.{Releases}
 use Rattle.lob_versions.specs.Versions.{HasPiece, LosesVersion, IsOldest, IsOddOldest}
 use Rattle.lob_versions.proofs.ReadLemmas.{ends}
-use Rattle.lob_versions.proofs.ReleaseLemmas.{becomes_on}
+use Rattle.lob_index.proofs.AnswerLemmas.{becomes_on}
+use Rattle.lob_versions.specs.declared.release.End.TheVariants.{Last}
 use Rattle.lob_versions.proofs.LoseLemmas.{drop_ready, drop_loses, may_drop, used_read, used_drop, odd_giving, none_oldest}
 use Rattle.lob_versions.proofs.drops.drop_oldest.Goals as goal
 
@@ -44,7 +45,7 @@ returns-in_err-release-clause-honest g c =
     let t = g.P.Pages.state c.read_oldest.new.p in
     let head = address_of c.args.head in
     honest_on _ _ c.release.result _ _
-    (odd_giving (IsOddOldest s.told s.count head) c.args.first.0 head (address_of c.in-Some.oldest.node) c.in-Some.oldest.page.0 s t c.read_oldest.ensures.uses.count)
+    (odd_giving (IsOddOldest s.told s.count head) Last c.args.first.0 head (address_of c.in-Some.oldest.node) c.in-Some.oldest.page.0 s t c.read_oldest.ensures.uses.count)
     c.release.ensures.honest c.in_err-release.was c.from_residual-in_err-release.ensures
 
 pub returns-in_default-clause-drops : goal.returns-in_default-clause-drops
@@ -71,7 +72,7 @@ returns-in_err-release-clause-never g c = λ pages l bs q cs s.
           let is = subst I c.in-Some.is (c.in_ok-oldest.ensures.value pages l bs q.head ys x cs s'.told' s'.lob' s'.head') in
           let can = drop_ready pages l bs q.head ys x cs (address_of c.args.head) (address_of o.node) o.page.0 s'.lob' s'.map' s'.used s'.head' is.1 is.2 in
           let own = lob_pages (with_pieces l (bs ++ piece q.head (ys ++ x ∷ []) ∷ cs)) in
-          handed_on c.release.result _ _ (c.release.ensures.never pages own (with_pieces l (bs ++ piece q.head ys ∷ cs)) (map place_of ys) [] (c.read_oldest.ensures.told ∙ s.told') s.first' can) c.in_err-release.was c.from_residual-in_err-release.ensures
+          handed_on c.release.result _ _ (c.release.ensures.never pages own (with_pieces l (bs ++ piece q.head ys ∷ cs)) (map place_of ys) [] (c.read_oldest.ensures.told ∙ s.told') s.first' can refl) c.in_err-release.was c.from_residual-in_err-release.ensures
           )
     ]
 
@@ -99,5 +100,5 @@ returns-clause-drops g c = λ pages l bs h ys x cs s low.
       refl,
       becomes_on (R (address_of o.node) o.page.0) (LosesVersion l bs p (dropped p) cs x.place x.page pages) _
           (λ new r. drop_loses pages l bs h ys x cs s.lob' new (subst (λ (a : Address). R a x.page new) is.1 (subst (λ (k : ℕ). R (address_of o.node) k new) is.2 r)))
-          (c.in_ok-release.ensures.releases pages own lob' (map place_of ys) [] (c.read_oldest.ensures.told ∙ s.told') s.first' can),
+          (c.in_ok-release.ensures.releases pages own lob' (map place_of ys) [] (c.read_oldest.ensures.told ∙ s.told') s.first' can refl),
     )

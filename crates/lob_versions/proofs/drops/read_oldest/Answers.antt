@@ -4,12 +4,13 @@ use Rattle.page_model.specs.Lists.{last_of}
 use Rattle.engine_base.specs.Addresses.{address_of}
 use Rattle.engine_base.specs.declared.addr.Addr.{Addr}
 use Rattle.file_lists.specs.Links.{link_of}
-use Rattle.file_lists.proofs.LinkLemmas.{handed_on}
+use Rattle.file_lists.proofs.LinkLemmas.{at_told, handed_on}
 use Rattle.store_data.specs.Store.{Version}
 use Rattle.lob_model.specs.Pieces.{place_of}
 use Rattle.lob_model.specs.Changes.{with_pieces, piece}
 use Rattle.lob_versions.proofs.PieceLemmas.{version_in, entry_found, entry_plain}
-use Rattle.lob_versions.proofs.ReadLemmas.{may_node, may_node_again, used_node, used_node_again, used_both, named_node, page_below, oldest_link, ends, last_place, same_some, none_there, at_told}
+use Rattle.lob_index.proofs.AnswerLemmas.{same_some, none_there}
+use Rattle.lob_versions.proofs.ReadLemmas.{may_node, may_node_again, used_node, used_node_again, used_both, named_node, page_below, oldest_link, ends, last_place}
 use Rattle.lob_versions.proofs.drops.read_oldest.Goals as goal
 
 pub read_field-requires-clause-may : goal.read_field-requires-clause-may

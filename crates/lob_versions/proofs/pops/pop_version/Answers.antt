@@ -1,4 +1,4 @@
-use Rattle.std.proofs.Common.{ℕ, ◌++◌, [], ◌∷◌, map, subst, ◌∙◌}
+use Rattle.std.proofs.Common.{ℕ, ◌++◌, [], ◌∷◌, map, refl, subst, ◌∙◌}
 use Rattle.page_model.specs.Pages.{Pages, Address}
 use Rattle.engine_base.specs.Addresses.{address_of}
 use Rattle.file_lists.proofs.LinkLemmas.{handed_on}
@@ -9,7 +9,8 @@ use Rattle.lob_model.specs.Changes.{with_pieces, piece}
 use Rattle.lob_index.proofs.HonestLemmas.{honest_on}
 use Rattle.lob_versions.specs.Releases.{Releases}
 use Rattle.lob_versions.specs.Versions.{LosesVersion, IsOddNewest}
-use Rattle.lob_versions.proofs.ReleaseLemmas.{becomes_on}
+use Rattle.lob_index.proofs.AnswerLemmas.{becomes_on}
+use Rattle.lob_versions.specs.declared.release.End.TheVariants.{First}
 use Rattle.lob_versions.proofs.LoseLemmas.{pop_ready, pop_loses, may_write, may_give_up, used_read, used_write, used_pop, odd_giving}
 use Rattle.lob_versions.proofs.pops.pop_version.Goals as goal
 
@@ -42,7 +43,7 @@ returns-in_err-release-clause-honest g c =
     let t = g.P.Pages.state c.write_fields.new.p in
     let head = address_of c.args.head in
     honest_on _ _ c.release.result _ _
-    (odd_giving (IsOddNewest s.told s.count head) c.args.first.0 head (address_of c.in_ok-newest.newest.node) c.in_ok-newest.newest.page.0 s t (c.write_fields.ensures.uses.count ∙ c.read_newest.ensures.uses.count))
+    (odd_giving (IsOddNewest s.told s.count head) First c.args.first.0 head (address_of c.in_ok-newest.newest.node) c.in_ok-newest.newest.page.0 s t (c.write_fields.ensures.uses.count ∙ c.read_newest.ensures.uses.count))
     c.release.ensures.honest c.in_err-release.was c.from_residual-in_err-release.ensures
 
 pub returns-in_err-release-clause-never : goal.returns-in_err-release-clause-never
@@ -54,7 +55,7 @@ returns-in_err-release-clause-never g c = λ pages l bs h x more cs s.
     let newest = c.in_ok-newest.ensures.value pages l bs h x more cs s.told' s.lob' s.head' in
     let b = pop_ready _ _ pages l bs h x more cs n.fields (address_of c.args.head) (address_of n.node) n.page.0 (c.read_newest.ensures.told ∙ s.told') s.lob' s.map' s.used s.head' newest.node newest.page newest.fields
     c.in_ok-write_fields.ensures.sets in
-    handed_on c.release.result _ _ (c.release.ensures.never b.0 own lob' [] (map place_of more) b.1 s.first' b.2.1) c.in_err-release.was c.from_residual-in_err-release.ensures
+    handed_on c.release.result _ _ (c.release.ensures.never b.0 own lob' [] (map place_of more) b.1 s.first' b.2.1 refl) c.in_err-release.was c.from_residual-in_err-release.ensures
 
 pub returns-clause-pops : goal.returns-clause-pops
 returns-clause-pops g c = λ pages l bs h x more cs s.
@@ -69,5 +70,5 @@ returns-clause-pops g c = λ pages l bs h x more cs s.
       newest.node,
       becomes_on (R (address_of n.node) n.page.0) (LosesVersion l bs p (popped p) cs x.place h.page pages) _
           (λ new r. pop_loses pages l bs h x more cs s.lob' b.0 new s.used b.2.0 (subst (λ (a : Address). R a h.page new) newest.node (subst (λ (k : ℕ). R (address_of n.node) k new) newest.page r)))
-          (c.in_ok-release.ensures.releases b.0 own lob' [] (map place_of more) b.1 s.first' b.2.1),
+          (c.in_ok-release.ensures.releases b.0 own lob' [] (map place_of more) b.1 s.first' b.2.1 refl),
     )

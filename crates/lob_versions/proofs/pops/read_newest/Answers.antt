@@ -3,11 +3,12 @@ use Rattle.page_model.specs.Pages.{Address, field}
 use Rattle.engine_base.specs.Addresses.{address_of}
 use Rattle.engine_base.specs.declared.addr.Addr.{Addr}
 use Rattle.file_lists.specs.Links.{link_of}
-use Rattle.file_lists.proofs.LinkLemmas.{handed_on}
+use Rattle.file_lists.proofs.LinkLemmas.{at_told, handed_on}
 use Rattle.lob_model.specs.Changes.{with_pieces, piece}
 use Rattle.lob_pages.specs.Entries.{IsEntryAt}
 use Rattle.lob_versions.proofs.PieceLemmas.{version_in, entry_found, entry_plain}
-use Rattle.lob_versions.proofs.ReadLemmas.{may_again, may_node, used_both, used_node, named_node, page_below, newest_link, same_some, none_there, at_told}
+use Rattle.lob_index.proofs.AnswerLemmas.{same_some, none_there}
+use Rattle.lob_versions.proofs.ReadLemmas.{may_again, may_node, used_both, used_node, named_node, page_below, newest_link}
 use Rattle.lob_versions.proofs.pops.read_newest.Goals as goal
 
 pub data_page-requires-clause-may : goal.data_page-requires-clause-may

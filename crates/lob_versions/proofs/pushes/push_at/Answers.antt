@@ -3,12 +3,11 @@ use Rattle.page_model.proofs.StepLemmas.{uses_bound}
 use Rattle.engine_base.specs.Addresses.{address_of}
 use Rattle.file_lists.specs.Near.{near_front}
 use Rattle.file_lists.proofs.NearLemmas.{may_front, front_few}
-use Rattle.file_lists.proofs.LinkLemmas.{handed_on}
+use Rattle.file_lists.proofs.LinkLemmas.{at_told, handed_on}
 use Rattle.lob_model.specs.Pieces.{place_of}
 use Rattle.lob_model.specs.Changes.{with_pieces}
 use Rattle.lob_model.specs.Places.{versions_base}
-use Rattle.lob_versions.proofs.IndexLemmas.{few_index}
-use Rattle.lob_versions.proofs.ReadLemmas.{at_told}
+use Rattle.lob_index.proofs.IndexLemmas.{few_index}
 use Rattle.lob_versions.proofs.PushLemmas.{few_older, push_ready, push_done, may_data, may_entry, may_add, may_fields, used_data, used_entry, used_add, used_fields}
 use Rattle.lob_versions.proofs.pushes.push_at.Goals as goal
 
@@ -84,7 +83,8 @@ pub returns-in_err-add_first-clause-never : goal.returns-in_err-add_first-clause
 returns-in_err-add_first-clause-never g c = λ pages l bs q cs told same ready.
     let whole = g.P.Pages.whole c.args.p.now pages told in
     let few : length pages ≤ 32_768 = let z = c.requires.size.few in let m = whole.many in omega (arith, z, m) in
-    let index = few_index pages (with_pieces l (bs ++ q ∷ cs)) _ ready.lob' few in
+    let low : length l.index ≤ length pages = few_index pages (with_pieces l (bs ++ q ∷ cs)) _ ready.lob' in
+    let index : length l.index ≤ 32_768 = omega (arith, low, few) in
     let b = push_ready _ _ _ pages l bs q cs (address_of c.args.head) (address_of c.args.node) c.args.page.0 c.args.v.0 c.args.trx.0 c.args.bytes.now c.in_ok-before.before c.bare.result (c.read_entry.ensures.told ∙ told) same ready c.requires.fits
     (at_told _ _ pages told c.in_ok-before.ensures.value) c.bare.ensures c.in_ok-write_data.ensures.makes c.in_ok-write_entry.ensures.sets in
     handed_on c.add_first.result _ _ (c.add_first.ensures.never b.0 (map place_of q.older) b.1 b.2.1 (few_older l bs q cs (address_of c.args.node) ready.lob'.shape index)) c.in_err-add_first.was c.from_residual-in_err-add_first.ensures
@@ -93,7 +93,8 @@ pub returns-clause-pushes : goal.returns-clause-pushes
 returns-clause-pushes g c = λ pages l bs q cs told same ready.
     let whole = g.P.Pages.whole c.args.p.now pages told in
     let few : length pages ≤ 32_768 = let z = c.requires.size.few in let m = whole.many in omega (arith, z, m) in
-    let index = few_index pages (with_pieces l (bs ++ q ∷ cs)) _ ready.lob' few in
+    let low : length l.index ≤ length pages = few_index pages (with_pieces l (bs ++ q ∷ cs)) _ ready.lob' in
+    let index : length l.index ≤ 32_768 = omega (arith, low, few) in
     let b = push_ready _ _ _ pages l bs q cs (address_of c.args.head) (address_of c.args.node) c.args.page.0 c.args.v.0 c.args.trx.0 c.args.bytes.now c.in_ok-before.before c.bare.result (c.read_entry.ensures.told ∙ told) same ready c.requires.fits
     (at_told _ _ pages told c.in_ok-before.ensures.value) c.bare.ensures c.in_ok-write_data.ensures.makes c.in_ok-write_entry.ensures.sets in
     push_done _ _ pages l bs q cs (address_of c.args.head) (address_of c.args.node) c.args.page.0 c.args.v.0 c.args.trx.0 c.args.bytes.now _ b.0 same ready b.2.0

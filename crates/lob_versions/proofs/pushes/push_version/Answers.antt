@@ -8,7 +8,7 @@ use Rattle.lob_index.specs.Taking.{node_taken}
 use Rattle.lob_index.proofs.HonestLemmas.{honest_on}
 use Rattle.lob_versions.specs.Pushes.{new_version, PushesAt}
 use Rattle.lob_versions.specs.Pushings.{PushesVersion}
-use Rattle.lob_versions.proofs.ReleaseLemmas.{on_ok, becomes_on}
+use Rattle.lob_index.proofs.AnswerLemmas.{on_ok, becomes_on}
 use Rattle.lob_versions.proofs.PushingLemmas.{can_node, one_left, left_free, ready, pushed_whole, may_take_node, may_take_page, may_push, used_node, used_page, used_push, odd_taken, odd_left}
 use Rattle.lob_versions.proofs.pushes.push_version.Goals as goal
 
@@ -18,7 +18,7 @@ take_node-requires-clause-may g c = may_take_node c.args.head.page.0 c.args.firs
 pub returns-in_err-node-clause-uses : goal.returns-in_err-node-clause-uses
 returns-in_err-node-clause-uses g c =
     let t = c.take_node.new.p in
-    used_node g.P.Pages.stays_on 0 0 c.args.head.page.0 c.args.first.0 (length c.args.bytes.now) c.args.p.now t t t c.take_node.ensures.uses
+    used_node c.args.head.page.0 c.args.first.0 (length c.args.bytes.now) c.args.p.now t c.take_node.ensures.uses
 
 pub returns-in_err-node-clause-never : goal.returns-in_err-node-clause-never
 returns-in_err-node-clause-never g c = λ pages l bs q cs has can.
@@ -27,25 +27,25 @@ returns-in_err-node-clause-never g c = λ pages l bs q cs has can.
 pub take-requires-clause-may : goal.take-requires-clause-may
 take-requires-clause-may g c =
     let t = c.take_node.new.p in
-    may_take_page g.P.Pages.stays_on 0 0 c.args.head.page.0 c.args.first.0 (length c.args.bytes.now) c.args.p.now t t t c.requires.may c.take_node.ensures.uses
+    may_take_page g.P.Pages.stays_on c.in_ok-node.node.page.0 0 c.args.head.page.0 c.args.first.0 (length c.args.bytes.now) c.args.p.now t t t c.requires.may c.in_ok-node.ensures.named
 
 pub returns-in_err-page-clause-uses : goal.returns-in_err-page-clause-uses
 returns-in_err-page-clause-uses g c =
     let t = c.take_node.new.p in
     let u = c.take.new.p in
-    used_page g.P.Pages.stays_on 0 0 c.args.head.page.0 c.args.first.0 (length c.args.bytes.now) c.args.p.now t u u c.take_node.ensures.uses c.take.ensures.uses
+    used_page g.P.Pages.stays_on c.in_ok-node.node.page.0 0 c.args.head.page.0 c.args.first.0 (length c.args.bytes.now) c.args.p.now t u u c.in_ok-node.ensures.named c.take.ensures.uses
 
 pub push_at-requires-clause-may : goal.push_at-requires-clause-may
 push_at-requires-clause-may g c =
     let t = c.take_node.new.p in
     let u = c.take.new.p in
-    may_push g.P.Pages.stays_on c.in_ok-node.node.page.0 c.in_ok-page.page.0 c.args.head.page.0 c.args.first.0 (length c.args.bytes.now) c.args.p.now t u u c.requires.may c.take_node.ensures.uses c.take.ensures.uses
+    may_push g.P.Pages.stays_on c.in_ok-node.node.page.0 c.in_ok-page.page.0 c.args.head.page.0 c.args.first.0 (length c.args.bytes.now) c.args.p.now t u u c.requires.may c.in_ok-node.ensures.named c.take.ensures.uses
 
 pub returns-clause-uses : goal.returns-clause-uses
 returns-clause-uses g c =
     let t = c.take_node.new.p in
     let u = c.take.new.p in
-    used_push g.P.Pages.stays_on c.in_ok-node.node.page.0 c.in_ok-page.page.0 c.args.head.page.0 c.args.first.0 (length c.args.bytes.now) c.args.p.now t u c.push_at.new.p c.take_node.ensures.uses c.take.ensures.uses c.push_at.ensures.uses
+    used_push g.P.Pages.stays_on c.in_ok-node.node.page.0 c.in_ok-page.page.0 c.args.head.page.0 c.args.first.0 (length c.args.bytes.now) c.args.p.now t u c.push_at.new.p c.in_ok-node.ensures.named c.take.ensures.uses c.push_at.ensures.uses
 
 pub returns-in_err-page-clause-never : goal.returns-in_err-page-clause-never
 returns-in_err-page-clause-never g c = λ pages l bs q cs has can.
@@ -89,7 +89,7 @@ returns-then-reserved-eq0-clause-never g c = λ pages l bs q cs has can.
 pub returns-then-reserved-eq0-clause-uses : goal.returns-then-reserved-eq0-clause-uses
 returns-then-reserved-eq0-clause-uses g c =
     let t = c.take_node.new.p in
-    used_node g.P.Pages.stays_on 0 0 c.args.head.page.0 c.args.first.0 (length c.args.bytes.now) c.args.p.now t t t c.take_node.ensures.uses
+    used_node c.args.head.page.0 c.args.first.0 (length c.args.bytes.now) c.args.p.now t c.take_node.ensures.uses
 
 pub returns-in_err-page-clause-honest : goal.returns-in_err-page-clause-honest
 returns-in_err-page-clause-honest g c =
