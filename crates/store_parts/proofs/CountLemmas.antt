@@ -1,16 +1,17 @@
 -- Pages counted: those of spans, of parts, and the marks of a map.
-use Rattle.std.proofs.Common.{◌≡◌, inl, ℕ, ◌+◌, ◌%◌, ◌≤◌, ◌==◌, Bool, true, false, cond, nat_lt, List, [], ◌∷◌, ◌++◌, length, map, ap, arith}
-use Rattle.std.proofs.lemmas.Bool.{eq-eqb}
+use Rattle.std.proofs.Common.{◌≡◌, inl, inr, ℕ, ◌+◌, ◌%◌, ◌≤◌, ◌==◌, ◌||◌, Bool, true, false, cond, nat_lt, List, [], ◌∷◌, ◌++◌, length, map, ap, ◌∙◌, arith}
+use Rattle.std.proofs.lemmas.Bool.{eq-eqb, ne_eqb, cases_eq, or_cases}
 use Rattle.std.proofs.lemmas.Nat.Bits.{bit_at-lt}
 use Rattle.page_model.specs.Pages.{Pages, byte}
 use Rattle.page_model.specs.Spans.{Span, IsApartFromAll, AreApart}
 use Rattle.page_model.specs.Counts.{one_if, times}
-use Rattle.page_model.proofs.CountLemmas.{times_here}
+use Rattle.page_model.proofs.CountLemmas.{times_here, times-append}
 use Rattle.page_space.specs.Map.{bit, place_of}
 use Rattle.lob_model.specs.Places.{whole_page}
-use Rattle.undo_model.specs.Data.{Part}
+use Rattle.undo_model.specs.Data.{Part, Log}
 use Rattle.undo_model.specs.Logs.{AreParts, part_spans}
-use Rattle.undo_model.specs.LogLists.{pages_in}
+use Rattle.undo_model.specs.LogLists.{pages_in, all_pages}
+use Rattle.undo_model.specs.LogSteps.{has_page}
 use Rattle.undo_model.specs.Rows.{RowPage, page_spans}
 use Rattle.store_parts.specs.Stored.{row_pages}
 use Rattle.store_parts.specs.Standing.{mark, AreOn}
@@ -75,3 +76,34 @@ pub first_on : (pages : Pages) (first : ℕ) (parts : List Part) → AreParts pa
 first_on pages first [] are = absurd are
 first_on pages first (p ∷ []) are = let e : one_if (p.page == first) ≡ 1 = ap one_if (eq-eqb p.page first are.0) in omega (arith, e)
 first_on pages first (p ∷ q ∷ older) are = let r = first_on pages first (q ∷ older) are.1 in omega (arith, r)
+
+-- the pages of two lists of logs joined count as those of each, added up
+pub times-joined : (n : ℕ) (ls ms : List Log) → times n (all_pages (ls ++ ms)) ≡ times n (all_pages ls) + times n (all_pages ms)
+times-joined n [] ms = omega arith
+times-joined n (l ∷ ls) ms =
+    let r = times-joined n ls ms in
+    let a = times-append n (pages_in l.parts) (all_pages (ls ++ ms)) in
+    let b = times-append n (pages_in l.parts) (all_pages ls) in
+    omega (arith, r, a, b)
+
+-- ---- the page is among those of a log
+
+one_here : (b : Bool) → b ≡ true → 1 ≤ one_if b
+one_here b is = (let e : one_if b ≡ 1 = ap one_if is in omega (arith, e))
+
+-- a page that a log has is one of its pages
+pub page_counts : (n : ℕ) (parts : List Part) → has_page n parts ≡ true → 1 ≤ times n (pages_in parts)
+page_counts n [] has = absurd (let e : false ≡ true = has in cc)
+page_counts n (p ∷ older) has = elim (or_cases (p.page == n) (has_page n older) has) [
+  | inl here ↦ (let o = one_here (p.page == n) here in omega (arith, o))
+  | inr later ↦ (let r = page_counts n older later in omega (arith, r))
+]
+
+-- and the other way round
+pub counts_page : (n : ℕ) (parts : List Part) → 1 ≤ times n (pages_in parts) → has_page n parts ≡ true
+counts_page n [] some = absurd (omega (arith, some))
+counts_page n (p ∷ older) some = elim (cases_eq p.page n) [
+  | inl same ↦ ap (λ (b : Bool). b || has_page n older) (eq-eqb p.page n same)
+  | inr other ↦ ap (λ (b : Bool). b || has_page n older) (ne_eqb p.page n other)
+      ∙ counts_page n older (let z : one_if (p.page == n) ≡ 0 = ap one_if (ne_eqb p.page n other) in omega (arith, z, some))
+]

@@ -1,5 +1,5 @@
 -- A log after a record was put at the end of its newest page.
-use Rattle.std.proofs.Common.{◌≡◌, ◌≢◌, ◌⊎◌, inl, inr, ℕ, ◌+◌, ◌-◌, ◌≤◌, List, [], ◌∷◌, ◌++◌, map, refl, sym, ◌∙◌, subst, arith, lit≤}
+use Rattle.std.proofs.Common.{◌≡◌, ◌≢◌, ◌⊎◌, inl, inr, ℕ, ◌+◌, ◌-◌, ◌≤◌, List, [], ◌∷◌, ◌++◌, length, map, refl, sym, ◌∙◌, subst, arith, lit≤}
 use Rattle.std.proofs.lemmas.List.{map-append}
 use Rattle.std.proofs.lemmas.Bool.{cases_eq}
 use Rattle.page_model.specs.Pages.{Pages, Address}
@@ -11,9 +11,10 @@ use Rattle.store_data.specs.Store.{LogState}
 use Rattle.undo_model.specs.Data.{Record, Entry, Part, Log}
 use Rattle.undo_model.specs.Bytes.{record_size}
 use Rattle.undo_model.specs.Reading.{record_end}
-use Rattle.undo_model.specs.Logs.{node_of, end_field, nodes_in, records_in, newest, pages_base, last_field, AreChained, IsPart, AreParts, IsNewPage, LastIs, IsLog, body_spans}
+use Rattle.undo_model.specs.Logs.{node_of, end_field, nodes_in, records_in, newest, pages_base, last_field, AreChained, IsPart, AreParts, AreNumbered, IsNewPage, LastIs, IsLog, body_spans, next_field}
 use Rattle.undo_model.proofs.LogLemmas.{parts_kept, chain_kept, chains_kept, chained_rest, apart_join, commit_is, next_is}
 use Rattle.undo_logs.specs.Puts.{PutsRecord, Role, IsReady, at_end}
+use Rattle.undo_logs.proofs.DueLemmas.{active_due}
 
 -- another page, or apart on the same one
 pub apart_if : (page q at size at' size' : ℕ) → (q ≡ page → (at' + size' ≤ at) ⊎ (at + size ≤ at')) → IsApart (span page at size) (span q at' size')
@@ -137,9 +138,10 @@ page_chain old new log start n p older low part role same chain =
 -- a record put at the end of the page that is ready is the newest of the log that then stands
 pub put_ready : (old new : Pages) (log : Log) (start : ℕ) (p : Part) (older : List Part) (r : Record) → IsReady old log start p older → end_field old p.page + record_size r ≤ record_end
     → PutsRecord log.page (at_end old p) r (newest (p.records ++ records_in older)) old new
+    → AreNumbered (p.records ++ records_in older) → r.number ≡ length (p.records ++ records_in older)
     → IsLog new (record log { parts = record { page = p.page; records = record { at = at_end old p; undo = r } ∷ p.records } ∷ older })
 unfolding put_spans
-put_ready old new log start p older r ready within puts =
+put_ready old new log start p older r ready within puts numbered count =
     let a = at_end old p in
     let n = record_size r in
     let same : SameOutside (put_spans a n log.page) old new = puts.outside in
@@ -165,4 +167,6 @@ put_ready old new log start p older r ready within puts =
       chain = (puts.stands (omega (arith, floor, least)) (λ e. let f = first e in omega (arith, f, floor)), page_chain old new log.page start n p older low ready.part ready.role same ready.chain);
       last = is_last;
       next = next_is log.state _ _ log.next (address_kept xs old new log.page 101 same behind) ready.next;
+      due = active_due log.state (next_field old log.page) log.next (record { at = a; undo = r } ∷ (p.records ++ records_in older)) ready.active ready.next;
+      numbered = (count, numbered);
     }

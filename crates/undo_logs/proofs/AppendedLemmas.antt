@@ -1,5 +1,5 @@
 -- The record appended: placed, and put.
-use Rattle.std.proofs.Common.{◌≡◌, ◌≢◌, inl, ℕ, ◌+◌, ◌≤◌, List, [], ◌∷◌, ◌++◌, Option, Some, IfSome, refl, sym, ap, ◌∙◌, subst, arith, lit≤}
+use Rattle.std.proofs.Common.{◌≡◌, ◌≢◌, inl, ℕ, ◌+◌, ◌≤◌, List, [], ◌∷◌, ◌++◌, length, Option, Some, IfSome, refl, sym, ap, ◌∙◌, subst, arith, lit≤}
 use Rattle.page_model.specs.Pages.{Pages, Address, page_bytes}
 use Rattle.page_model.specs.Spans.{span, IsOffAll, SameOutside}
 use Rattle.page_model.specs.Steps.{Told, Becomes}
@@ -10,7 +10,7 @@ use Rattle.store_data.specs.Store.{LogState, active}
 use Rattle.undo_model.specs.Data.{Record, Entry, Part, Log}
 use Rattle.undo_model.specs.Bytes.{record_size}
 use Rattle.undo_model.specs.Reading.{record_end, record_span}
-use Rattle.undo_model.specs.Logs.{IsLog, AreParts, newest, last_field, LastIs, records_in, records_of, log_spans, part_spans, end_field}
+use Rattle.undo_model.specs.Logs.{IsLog, AreParts, AreNumbered, newest, last_field, LastIs, records_in, records_of, log_spans, part_spans, end_field}
 use Rattle.undo_model.specs.LogSteps.{appended}
 use Rattle.undo_logs.specs.Puts.{PutsRecord, Role, at_end}
 use Rattle.store_parts.specs.Appends.{CanAppend, AppendsRecord, MayOpen}
@@ -55,9 +55,9 @@ start_of mid new log start p (q ∷ older) role are = (role.0, are.0.owner, are.
 last_active : (s : LogState) (a : Address) (records : List Entry) → s ≡ active → LastIs s a records → a ≡ newest records
 last_active s a records is last = subst (λ (x : LogState). LastIs x a records) is last
 
-appended_new : (pages mid new : Pages) (l : Log) (r : Record) (roll : ℕ) (a previous : Address) → CanAppend l pages → IsPlaced l (record_size r) a pages mid → previous ≡ last_field pages l.page
+appended_new : (pages mid new : Pages) (l : Log) (r : Record) (roll : ℕ) (a previous : Address) → CanAppend l pages → IsPlaced l (record_size r) a pages mid → previous ≡ last_field pages l.page → r.number ≡ length (records_of l)
     → PutsRecord l.page a r previous mid new → (roll ≡ Rattle.undo_model.specs.Data.pointer (Rattle.undo_model.specs.Bytes.is_insert r.body) a) → AppendsRecord l r roll pages new
-appended_new pages mid new l r roll a previous can placed prev puts is =
+appended_new pages mid new l r roll a previous can placed prev count puts is =
     let p = placed.part in
     let older = placed.older in
     let at = placed.place in
@@ -66,7 +66,7 @@ appended_new pages mid new l r roll a previous can placed prev puts is =
     let puts' : PutsRecord l.page (at_end mid p) r (newest (p.records ++ records_in older)) mid new = subst (P (at_end mid p)) before (subst (λ (x : Address). P x previous) at puts) in
     let fits : end_field mid p.page + record_size r ≤ record_end = let f = placed.fits in let e = ap (λ (x : Address). x.at) at in omega (arith, f, e) in
     let e' : Entry = record { at = at_end mid p; undo = r } in
-    let stands = put_ready mid new l placed.start p older r placed.ready fits puts' in
+    let stands = put_ready mid new l placed.start p older r placed.ready fits puts' (subst AreNumbered (sym placed.same) can.stands.numbered) (count ∙ ap length (sym placed.same)) in
     let whole : appended e' l ≡ record l { parts = record { page = p.page; records = e' ∷ p.records } ∷ older } =
     ap (λ (ps : List Part). let m : Log = record l { parts = ps } in m) (placed.puts e' (sym at)) in
     let log' : IsLog new (appended e' l) = subst (IsLog new) (sym whole) stands in
@@ -85,11 +85,11 @@ appended_new pages mid new l r roll a previous can placed prev puts is =
     }
 
 -- over told pages
-pub append_told : (t0 t1 t2 : Option Pages) (pages : Pages) (l : Log) (r : Record) (log roll space : ℕ) (a previous : Address) → t0 ≡ Some pages → l.page ≡ log → CanAppend l pages
+pub append_told : (t0 t1 t2 : Option Pages) (pages : Pages) (l : Log) (r : Record) (log roll space : ℕ) (a previous : Address) → t0 ≡ Some pages → l.page ≡ log → CanAppend l pages → r.number ≡ length (records_of l)
     → IfSome t0 (λ ps. previous ≡ last_field ps log) → Becomes t1 (λ mid. IsPlaced l (record_size r) a pages mid × (space ≤ free_of mid)) → Told (PutsRecord log a r previous) t1 t2
     → roll ≡ Rattle.undo_model.specs.Data.pointer (Rattle.undo_model.specs.Bytes.is_insert r.body) a
     → Becomes t2 (λ new. AppendsRecord l r roll pages new × (space ≤ free_of new))
-append_told t0 t1 t2 pages l r log roll space a previous is same can prev placed puts roll_is =
+append_told t0 t1 t2 pages l r log roll space a previous is same can count prev placed puts roll_is =
     let mid = placed.0 in
     let at = placed.2.0 in
     let b = told_step (PutsRecord log a r previous) t1 t2 mid placed.1 puts in
@@ -100,4 +100,4 @@ append_told t0 t1 t2 pages l r log roll space a previous is same can prev placed
     let free : free_of b.0 ≡ free_of mid = field_kept (record_span a r ∷ span a.page 50 2 ∷ span l.page 95 6 ∷ []) mid b.0 0 62 4 puts'.outside
     (inl (λ e. zero (sym e)), (inl (λ e. zero (sym e)), (inl (λ e. log_zero (sym e)), tt))) in
     let room = placed.2.1 in
-    (b.0, b.1, (appended_new pages mid b.0 l r roll a previous can at prev' puts' roll_is, omega (arith, free, room)))
+    (b.0, b.1, (appended_new pages mid b.0 l r roll a previous can at prev' count puts' roll_is, omega (arith, free, room)))

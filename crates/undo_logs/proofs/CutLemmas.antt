@@ -7,12 +7,13 @@ use Rattle.page_model.proofs.FrameLemmas.{field_kept, address_kept, outside_then
 use Rattle.page_model.proofs.ListLemmas.{list_kept}
 use Rattle.store_data.specs.Store.{LogState, active}
 use Rattle.undo_model.specs.Data.{Entry, Part, Log}
-use Rattle.undo_model.specs.Logs.{nodes_in, records_in, newest, pages_base, last_field, end_field, IsFilled, AreChained, IsPart, IsNewPage, AreParts, HasRecord, LastIs, IsLog, body_spans, first_start, other_start}
+use Rattle.undo_model.specs.Logs.{nodes_in, records_in, newest, pages_base, last_field, end_field, IsFilled, AreChained, IsPart, IsNewPage, AreParts, AreNumbered, HasRecord, LastIs, IsLog, body_spans, first_start, other_start, next_field}
 use Rattle.undo_model.proofs.LogLemmas.{parts_kept, chain_kept, chains_kept, chained_rest, filled_low, next_is, commit_is}
 use Rattle.page_model.specs.Steps.{Told}
 use Rattle.undo_logs.specs.Pops.{CutsEnd}
 use Rattle.undo_logs.proofs.UseLemmas.{told_then}
 use Rattle.undo_logs.proofs.AppendLemmas.{apart_if, not_first, nodes_all}
+use Rattle.undo_logs.proofs.DueLemmas.{active_due}
 
 -- what cutting changes: the page's end and the address of the last record
 cut_spans : ℕ → ℕ → List Span
@@ -125,6 +126,8 @@ cut_in_place old mid new l page e rest older log state is some end last =
           (older_kept old new page l.page older same (behind_of old l.page page e rest older are) (chained_rest old rest (records_in older) chain.1));
       last = subst (λ (s : LogState). LastIs s (last_field new l.page) (rest ++ records_in older)) (sym state) last.here;
       next = next_is l.state _ _ l.next (address_kept xs old new l.page 101 same (field 101 6 (lit≤ tt) (inr (lit≤ tt)))) log.next;
+      due = active_due l.state (next_field old l.page) l.next (rest ++ records_in older) state log.next;
+      numbered = (subst (λ (ps : List Part). AreNumbered (records_in ps)) is log.numbered).1;
     }
 
 -- ---- both writes, over told pages

@@ -31,22 +31,22 @@ module _ (old new : Pages) (log : ℕ) (all nodes : List Address) (can : CanOpen
 
 -- the newest page taken out of the log's list and given back is dropped
 pub node_dropped : (t1 t2 : Option Pages) (pages : Pages) (log page : ℕ) (nodes : List Address) → CanOpen log (nodes ++ node_of page ∷ []) pages
-    → Becomes t1 (ChangesList (pages_base log) (nodes ++ node_of page ∷ []) (nodes ++ []) pages)
+    → Becomes t1 (ChangesList (pages_base log) (nodes ++ node_of page ∷ []) nodes pages)
     → ((ps : Pages) → t1 ≡ Some ps → IsMap ps → IsUsed ps page → Becomes t2 (GivesPage page ps)) → Becomes t2 (DropsNode log nodes page pages)
 node_dropped t1 t2 pages log page nodes can removed give =
     let all = nodes ++ node_of page ∷ [] in
-    let b = give removed.0 removed.1 (map_stays pages removed.0 log all (nodes ++ []) can removed.2)
-    (used_stays pages removed.0 log all (nodes ++ []) can removed.2 page (used_last pages nodes (node_of page) can.used).2) in
+    let b = give removed.0 removed.1 (map_stays pages removed.0 log all nodes can removed.2)
+    (used_stays pages removed.0 log all nodes can removed.2 page (used_last pages nodes (node_of page) can.used).2) in
     (b.0, b.1, record { unlinked = removed.0; change = removed.2; gives = b.2 })
 
 -- the map takes the page back
 pub node_drops : {X : Type 0} (t1 : Option Pages) (pages : Pages) (log page : ℕ) (nodes : List Address) → CanOpen log (nodes ++ node_of page ∷ []) pages
-    → Becomes t1 (ChangesList (pages_base log) (nodes ++ node_of page ∷ []) (nodes ++ []) pages)
+    → Becomes t1 (ChangesList (pages_base log) (nodes ++ node_of page ∷ []) nodes pages)
     → ((ps : Pages) → t1 ≡ Some ps → IsMap ps → IsUsed ps page → X) → X
 node_drops t1 pages log page nodes can removed then =
     let all = nodes ++ node_of page ∷ [] in
-    then removed.0 removed.1 (map_stays pages removed.0 log all (nodes ++ []) can removed.2)
-    (used_stays pages removed.0 log all (nodes ++ []) can removed.2 page (used_last pages nodes (node_of page) can.used).2)
+    then removed.0 removed.1 (map_stays pages removed.0 log all nodes can removed.2)
+    (used_stays pages removed.0 log all nodes can removed.2 page (used_last pages nodes (node_of page) can.used).2)
 
 -- and then the record before is made the log's last
 pub newest_dropped : (t1 t2 : Option Pages) (pages : Pages) (log page : ℕ) (nodes : List Address) (previous : Address) → Becomes t1 (DropsNode log nodes page pages) → Told (SetsAddress log 95 previous) t1 t2

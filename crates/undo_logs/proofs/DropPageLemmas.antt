@@ -9,8 +9,9 @@ use Rattle.page_space.specs.Map.{IsMap, IsUsed, GivesPage}
 use Rattle.file_lists.specs.Changes.{ChangesList}
 use Rattle.store_data.specs.Store.{LogState, active, purging, Record as ShownRecord, Log as ShownLog}
 use Rattle.undo_model.specs.Data.{Entry, Part, Log}
-use Rattle.undo_model.specs.Logs.{IsLog, LastIs, records_of, records_in, last_field, log_node, node_of, nodes_in, AreParts}
+use Rattle.undo_model.specs.Logs.{IsLog, LastIs, records_of, records_in, last_field, log_node, node_of, nodes_in, AreParts, IsDueIn}
 use Rattle.undo_model.specs.LogLists.{log_nodes, committed_base, pages_in}
+use Rattle.undo_model.proofs.OptionLemmas.{some_some}
 use Rattle.store_parts.specs.Appends.{CanOpen, newest_of, newest_page_of}
 use Rattle.store_parts.specs.Keeps.{Keeps}
 use Rattle.store_parts.specs.Shows.{entries_of, due_in, log_of}
@@ -22,7 +23,7 @@ use Rattle.undo_logs.specs.Pops.{DropsNode}
 use Rattle.undo_logs.proofs.AppendLemmas.{not_first}
 use Rattle.undo_logs.proofs.PopLemmas.{IsLogBut, left_but, left_keeps}
 use Rattle.undo_logs.proofs.ToldLemmas.{told_is}
-use Rattle.undo_logs.proofs.EndLemmas.{unlinked, map_beside, used_beside}
+use Rattle.undo_logs.proofs.EndLemmas.{map_beside, used_beside}
 
 -- ---- a page dropped
 
@@ -35,8 +36,8 @@ dropped_shows l parts is none =
     let mk : List (Address × ShownRecord) → ShownLog = λ rs. record { page = l.page; trx = l.trx; state = l.state; number = l.commit; pages = pages_in parts; records = rs } in
     ap mk (ap entries_of (none_due l.state l.next (records_in parts) is none) ∙ sym (ap entries_of (none_due l.state l.next (records_of l) is none)))
 
-but_purging : (pages : Pages) (l : Log) → IsLogBut pages l → l.state ≡ purging → IsLog pages l
-but_purging pages l but state = record {
+but_purging : (pages : Pages) (l : Log) → IsLogBut pages l → l.state ≡ purging → l.next ≡ None → IsLog pages l
+but_purging pages l but state none = record {
   state = but.state;
   trx = but.trx;
   commit = but.commit;
@@ -45,6 +46,8 @@ but_purging pages l but state = record {
   chain = but.chain;
   last = subst (λ (s : LogState). LastIs s (last_field pages l.page) (records_of l)) (sym state) tt;
   next = but.next;
+  due = subst (λ (o : Option Address). IsDueIn o (records_of l)) (sym none) tt;
+  numbered = but.numbered;
 }
 
 purging_other : (s : LogState) → s ≡ purging → s ≢ active
@@ -53,7 +56,7 @@ purging_other s is other = absurd (let e : purging ≡ active = sym is ∙ other
 pub page_changes : (l : Log) (p q : Part) (older : List Part) (old new : Pages) → CanDrop l old → l.parts ≡ p ∷ q ∷ older → DropsNode l.page (nodes_in (q ∷ older)) p.page old new → ChangesOldest (with_pages (pages_in (q ∷ older))) l old new
 page_changes l p q older old new can is drops = record {
   after = record l { parts = q ∷ older };
-  stands = but_purging new (record l { parts = q ∷ older }) (left_but old new l p q older can.stands is can.room drops) can.begun;
+  stands = but_purging new (record l { parts = q ∷ older }) (left_but old new l p q older can.stands is can.room drops) can.begun can.passed;
   shows = dropped_shows l (q ∷ older) can.begun can.passed;
   same_page = refl;
   state = purging_other l.state can.begun;
@@ -81,12 +84,21 @@ pub list_first : (pages : Pages) (l : Log) (log count : ℕ) → l.page ≡ log 
 list_first pages l log count same can = subst (λ (n : ℕ). IsList pages committed_base (log_node n ∷ log_nodes can.behind)) same can.list
 
 module _ (pages : Pages) (t0 t1 : Option Pages) (l : Log) (log count : ℕ) (is : t0 ≡ Some pages) (same : l.page ≡ log) (can : CanEnd l count pages)
-    (removes : (ps : Pages) (xs ys : List Address) → t0 ≡ Some ps → IsList ps committed_base (xs ++ log_node log ∷ ys) → Becomes t1 (ChangesList committed_base (xs ++ log_node log ∷ ys) (xs ++ ys) ps)) where
+    (removes : (ps : Pages) (ys : List Address) → t0 ≡ Some ps → IsList ps committed_base (log_node log ∷ ys) → Becomes t1 (ChangesList committed_base (log_node log ∷ ys) ys ps)) where
   removed : Becomes t1 (ChangesList committed_base (log_node log ∷ log_nodes can.behind) (log_nodes can.behind) pages)
-  removed = removes pages [] (log_nodes can.behind) is (list_first pages l log count same can)
+  removed = removes pages (log_nodes can.behind) is (list_first pages l log count same can)
+
+  -- whichever logs are behind it, they are left in the list
+  left_behind : (behind : List Log) → IsList pages committed_base (log_nodes (l ∷ behind)) → IsList removed.0 committed_base (log_nodes behind) × SameOutside (list_spans committed_base (log_nodes (l ∷ behind))) pages removed.0
+  left_behind behind list =
+      let ns = log_nodes behind in
+      let r = removes pages ns is (subst (λ (n : ℕ). IsList pages committed_base (log_node n ∷ ns)) same list) in
+      let u : r.0 ≡ removed.0 = some_some r.0 removed.0 (sym r.1 ∙ removed.1) in
+      let change : ChangesList committed_base (log_node log ∷ ns) ns pages removed.0 = subst (ChangesList committed_base (log_node log ∷ ns) ns pages) u r.2 in
+      (change.list, subst (λ (n : ℕ). SameOutside (list_spans committed_base (log_node n ∷ ns)) pages removed.0) (sym same) change.outside)
 
   outside : SameOutside (list_spans committed_base (log_nodes (l ∷ can.behind))) pages removed.0
-  outside = subst (λ (n : ℕ). SameOutside (list_spans committed_base (log_node n ∷ log_nodes can.behind)) pages removed.0) (sym same) removed.2.outside
+  outside = (left_behind can.behind can.list).1
 
   map_then : IsMap removed.0
   map_then = map_beside 98 (lit≤ tt) (lit≤ tt) (l ∷ can.behind) pages removed.0 outside can.drop.room.map
@@ -114,7 +126,7 @@ module _ (pages : Pages) (t0 t1 : Option Pages) (l : Log) (log count : ℕ) (is 
         record {
           unlinked = u;
           given = g.0;
-          unlinks = λ after list. unlinked committed_base pages t0 t1 (log_node log) u is removed.1 removes [] l after (ap log_node same) list;
+          unlinks = left_behind;
           gives = subst (λ ns. Keeps [] ns [] u g.0) (sym own_is) (keeps_give [] (l.page ∷ []) [] l.page u g.0 (λ n. omega arith) (λ n. omega arith) (subst (λ (n : ℕ). GivesPage n u g.0) (sym same) g.2));
           counts = b.2;
         },

@@ -13,6 +13,7 @@ pub mod BeginLemmas
 pub mod OwnLemmas
 pub mod ToldLemmas
 pub mod CutLemmas
+pub mod DueLemmas
 pub mod DropLemmas
 pub mod PopLemmas
 pub mod EndLemmas
@@ -23,3 +24,6 @@ pub mod PurgeLemmas
 pub mod DropPageLemmas
 pub mod MarkLemmas
 pub mod CommitLemmas
+pub mod OwnerLemmas
+pub mod WalkLemmas
+pub mod PurgedLemmas

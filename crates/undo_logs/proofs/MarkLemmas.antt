@@ -22,6 +22,7 @@ use Rattle.undo_logs.proofs.AppendLemmas.{apart_if, not_first, nodes_all}
 use Rattle.undo_logs.proofs.OwnLemmas.{writes_keep}
 use Rattle.undo_logs.proofs.PlaceOfLemmas.{places_off, due_oldest}
 use Rattle.undo_logs.proofs.UseLemmas.{told_then}
+use Rattle.undo_logs.proofs.DueLemmas.{oldest_due}
 
 -- state, number and next record, written one after the other, are all there
 pub marked_told : (log number : ℕ) (next : Address) (t0 t1 t2 t3 : Option Pages) → Told (SetsField log 52 1 2) t0 t1 → Told (SetsField log 59 8 number) t1 t2 → Told (SetsAddress log 101 next) t2 t3 → Told (MarksCommitted log number next) t0 t3
@@ -78,6 +79,8 @@ module _ (old new : Pages) (l : Log) (number : ℕ) (log : IsLog old l) (state :
         chain = chains_kept xs old new l.page l.parts same apart log.parts log.chain;
         last = address_kept xs old new l.page 95 same (inr (inr (lit≤ tt)), (inr (inr (lit≤ tt)), (inr (inl (lit≤ tt)), tt))) ∙ last_by l.state (last_field old l.page) (records_of l) state log.last;
         next = marks.next.here;
+        due = oldest_due (records_of l);
+        numbered = log.numbered;
       }
 
   pub marked_keeps : Keeps (l.page ∷ []) (pages_in l.parts) (pages_in l.parts) old new

@@ -35,7 +35,8 @@ no_record (w ∷ ws) e ys is = absurd (let f : [] ≡ w ∷ (ws ++ e ∷ ys) = i
 
 -- ---- its page
 
-filled_rest : (page start end : ℕ) (xs : List Entry) (e : Entry) (zs : List Entry) → IsFilled page start end (xs ++ e ∷ zs)
+-- the records of a page cut at one of them
+pub filled_rest : (page start end : ℕ) (xs : List Entry) (e : Entry) (zs : List Entry) → IsFilled page start end (xs ++ e ∷ zs)
     → (e.at.page ≡ page) × IsFilled page (e.at.at + record_size e.undo) end xs × IsFilled page start e.at.at zs
 filled_rest page start end [] e zs filled = (filled.0, sym filled.1, filled.2)
 filled_rest page start end (x ∷ xs) e zs filled = let r = filled_rest page start x.at.at xs e zs filled.2 in (r.0, (filled.0, filled.1, r.1), r.2)
@@ -93,11 +94,13 @@ found pages first (p ∷ q ∷ older) xs e ys are is = elim (split p.records (re
 
 -- ---- places of other records
 
+-- none of the records stands there
 abbrev pub AllOff : Address → List Entry → Type 0
 AllOff a [] = Unit {0}
 AllOff a (r ∷ rs) = (same_address r.at a ≡ false) × AllOff a rs
 
-off_join : (a : Address) (rs zs : List Entry) → AllOff a rs → AllOff a zs → AllOff a (rs ++ zs)
+-- two lists of such
+pub off_join : (a : Address) (rs zs : List Entry) → AllOff a rs → AllOff a zs → AllOff a (rs ++ zs)
 off_join a [] zs one two = two
 off_join a (r ∷ rs) zs one two = (one.0, off_join a rs zs one.1 two)
 
@@ -108,13 +111,15 @@ and_false false d e = refl
 other_page : (r a : Address) → r.page ≢ a.page → same_address r a ≡ false
 other_page r a other = ap (λ (b : Bool). b && (r.at == a.at)) (ne_eqb r.page a.page other)
 
-other_at : (r a : Address) → r.at ≢ a.at → same_address r a ≡ false
+-- another place
+pub other_at : (r a : Address) → r.at ≢ a.at → same_address r a ≡ false
 other_at r a other = and_false (r.page == a.page) (r.at == a.at) (ne_eqb r.at a.at other)
 
 pub same_here : (a : Address) → same_address a a ≡ true
 same_here a = ap₂ (λ (b d : Bool). b && d) (eq-eqb a.page a.page refl) (eq-eqb a.at a.at refl)
 
-off_above : (a : Address) (page start end : ℕ) (rs : List Entry) → IsFilled page start end rs → a.at < start → AllOff a rs
+-- records from a place on are off what is before it
+pub off_above : (a : Address) (page start end : ℕ) (rs : List Entry) → IsFilled page start end rs → a.at < start → AllOff a rs
 off_above a page start end [] filled low = tt
 off_above a page start end (r ∷ rs) filled low =
     let f = filled_low page start r.at.at rs filled.2 in
@@ -123,7 +128,8 @@ off_above a page start end (r ∷ rs) filled low =
     no : 1 ≤ 0 → ⊥
     no h = absurd (omega arith)
 
-off_below : (a : Address) (page start end : ℕ) (rs : List Entry) → IsFilled page start end rs → end ≤ a.at → AllOff a rs
+-- records up to a place are off what isn't before it
+pub off_below : (a : Address) (page start end : ℕ) (rs : List Entry) → IsFilled page start end rs → end ≤ a.at → AllOff a rs
 off_below a page start end [] filled high = tt
 off_below a page start end (r ∷ rs) filled high =
     let s = filled.1 in
@@ -147,7 +153,8 @@ new_at : (n : ℕ) (newer : List Part) (p : Part) (older : List Part) → IsNewP
 new_at n [] p older new = new.0
 new_at n (q ∷ newer) p older new = new_at n newer p older new.1
 
-off_newer : (pages : Pages) (first : ℕ) (a : Address) (newer : List Part) (p : Part) (older : List Part) → AreParts pages first (newer ++ p ∷ older) → a.page ≡ p.page → AllOff a (records_in newer)
+-- those of newer pages
+pub off_newer : (pages : Pages) (first : ℕ) (a : Address) (newer : List Part) (p : Part) (older : List Part) → AreParts pages first (newer ++ p ∷ older) → a.page ≡ p.page → AllOff a (records_in newer)
 off_newer pages first a [] p older are same = tt
 off_newer pages first a (n ∷ []) p older are same =
     off_join a n.records [] (let part = are.0.part in on_other a n.page other_start (end_field pages n.page) n.records part.filled (λ e. are.0.new.0 (e ∙ same))) tt
@@ -155,12 +162,14 @@ off_newer pages first a (n ∷ m ∷ newer) p older are same =
     off_join a n.records (records_in (m ∷ newer)) (let part = are.0.part in on_other a n.page other_start (end_field pages n.page) n.records part.filled (λ e. new_at n.page (m ∷ newer) p older are.0.new (e ∙ same)))
     (off_newer pages first a (m ∷ newer) p older are.1 same)
 
-parts_from : (pages : Pages) (first : ℕ) (newer : List Part) (p : Part) (older : List Part) → AreParts pages first (newer ++ p ∷ older) → AreParts pages first (p ∷ older)
+-- the parts from one on
+pub parts_from : (pages : Pages) (first : ℕ) (newer : List Part) (p : Part) (older : List Part) → AreParts pages first (newer ++ p ∷ older) → AreParts pages first (p ∷ older)
 parts_from pages first [] p older are = are
 parts_from pages first (n ∷ []) p older are = are.1
 parts_from pages first (n ∷ m ∷ newer) p older are = parts_from pages first (m ∷ newer) p older are.1
 
-off_older : (pages : Pages) (first : ℕ) (a : Address) (p : Part) (older : List Part) → AreParts pages first (p ∷ older) → a.page ≡ p.page → AllOff a (records_in older)
+-- those of older pages
+pub off_older : (pages : Pages) (first : ℕ) (a : Address) (p : Part) (older : List Part) → AreParts pages first (p ∷ older) → a.page ≡ p.page → AllOff a (records_in older)
 off_older pages first a p [] are same = tt
 off_older pages first a p (q ∷ older) are same = off_parts pages first a (q ∷ older) are.1 (subst (λ (n : ℕ). IsNewPage n (q ∷ older)) (sym same) are.0.new)
 

@@ -11,7 +11,7 @@ use Rattle.page_model.proofs.CountLemmas.{times_here}
 use Rattle.page_space.specs.Map.{place_of}
 use Rattle.store_data.specs.Store.{LogState, active, Record as ShownRecord, Log as ShownLog}
 use Rattle.undo_model.specs.Data.{Entry, Part, Log}
-use Rattle.undo_model.specs.Logs.{node_of, nodes_in, records_in, records_of, newest, pages_base, state_field, trx_field, commit_field, last_field, next_field, state_number, end_field, IsFilled, AreChained, AreParts, CommitIs, LastIs, NextIs, IsLog, body_spans}
+use Rattle.undo_model.specs.Logs.{node_of, nodes_in, records_in, records_of, newest, pages_base, state_field, trx_field, commit_field, last_field, next_field, state_number, end_field, IsFilled, AreChained, AreParts, AreNumbered, CommitIs, LastIs, NextIs, IsLog, body_spans}
 use Rattle.undo_model.specs.LogSteps.{popped, cut_part}
 use Rattle.undo_model.specs.LogLists.{pages_in}
 use Rattle.undo_model.proofs.LogLemmas.{parts_kept, chains_kept, chained_rest, filled_low, commit_is, next_is}
@@ -30,6 +30,7 @@ use Rattle.undo_logs.proofs.NewPageLemmas.{bodies_far, far_from_open, at_nodes, 
 use Rattle.undo_logs.proofs.OpenLemmas.{nodes_far}
 use Rattle.undo_logs.proofs.PlaceLemmas.{used_last}
 use Rattle.undo_logs.proofs.OwnLemmas.{within_first}
+use Rattle.undo_logs.proofs.DueLemmas.{active_due}
 
 -- ---- plain lists
 
@@ -54,10 +55,6 @@ same_tail x y xs ys e = ap tail_of e
 -- a list with an element isn't empty
 pub not_nil : {A X : Type 0} (x : A) (xs : List A) → [] ≡ x ∷ xs → X
 not_nil x xs e = absurd (let f : [] ≡ x ∷ xs = e in cc)
-
-append_none : {A : Type 0} (xs : List A) → xs ++ [] ≡ xs
-append_none [] = refl
-append_none (x ∷ xs) = ap (λ ys. x ∷ ys) (append_none xs)
 
 -- ---- which page the newest record is on
 
@@ -188,6 +185,7 @@ pub record IsLogBut (pages : Pages) (l : Log) : Type 0 where
   pub parts : AreParts pages l.page l.parts
   pub chain : AreChained pages (records_of l)
   pub next : NextIs l.state (next_field pages l.page) l.next
+  pub numbered : AreNumbered (records_of l)
 
 bodies_last : (pages : Pages) (log : ℕ) (parts : List Part) → AreParts pages log parts → AreApart (span log 95 6 ∷ []) (body_spans parts)
 bodies_last pages log [] are = tt
@@ -211,7 +209,13 @@ last_set mid new l a but state sets is =
       chain = chains_kept xs mid new l.page l.parts same apart but.parts but.chain;
       last = subst (λ (s : LogState). LastIs s (last_field new l.page) (records_of l)) (sym state) (sets.here ∙ is);
       next = next_is l.state _ _ l.next (address_kept xs mid new l.page 101 same (inr (inr (lit≤ tt)), tt)) but.next;
+      due = active_due l.state (next_field mid l.page) l.next (records_of l) state but.next;
+      numbered = but.numbered;
     }
+
+numbered_rest : (front rest : List Entry) → AreNumbered (front ++ rest) → AreNumbered rest
+numbered_rest [] rest are = are
+numbered_rest (e ∷ front) rest are = numbered_rest front rest are.1
 
 -- a log without the newest of its pages, but for the address of its last record
 module _ (old new : Pages) (l : Log) (p q : Part) (older : List Part) (log : IsLog old l) (is : l.parts ≡ p ∷ q ∷ older) (room : CanOpen l.page (nodes_in l.parts) old) (drops : DropsNode l.page (nodes_in (q ∷ older)) p.page old new) where
@@ -245,7 +249,7 @@ module _ (old new : Pages) (l : Log) (p q : Part) (older : List Part) (log : IsL
   left_list =
       let ns = nodes_in (q ∷ older) in
       let ms = span 0 62 4 ∷ span 0 (place_of p.page) 1 ∷ [] in
-      let l1 : IsList drops.unlinked (pages_base l.page) ns = subst (IsList drops.unlinked (pages_base l.page)) (append_none ns) drops.change.list in
+      let l1 : IsList drops.unlinked (pages_base l.page) ns = drops.change.list in
       list_kept ms drops.unlinked new (pages_base l.page) ns drops.gives.change.outside ((inl room.log_other, (inl room.log_other, tt)), nodes_far ms ns (λ a other. (inl other, (inl other, tt))) old (used_last old ns (node_of p.page) used).0) l1
 
   chain : AreChained old (records_in (q ∷ older))
@@ -263,6 +267,7 @@ module _ (old new : Pages) (l : Log) (p q : Part) (older : List Part) (log : IsL
         parts = parts_kept xs old new l.page (q ∷ older) same far are.1;
         chain = chains_kept xs old new l.page (q ∷ older) same far are.1 chain;
         next = next_is l.state _ _ l.next (address_kept xs old new l.page 101 same (beside 101 6 (lit≤ tt) (inr (lit≤ tt)))) log.next;
+        numbered = numbered_rest p.records (records_in (q ∷ older)) (subst (λ (ps : List Part). AreNumbered (records_in ps)) is log.numbered);
       }
 
   first_left : 1 ≤ times l.page (pages_in (q ∷ older))

@@ -29,6 +29,7 @@ use Rattle.undo_logs.proofs.ReadLemmas.{next_of_state}
 use Rattle.undo_logs.proofs.ToldLemmas.{told_is}
 use Rattle.undo_logs.proofs.UseLemmas.{begin}
 use Rattle.undo_logs.proofs.PlaceOfLemmas.{Found, found, places_off, down_there, newer_there, due_oldest}
+use Rattle.undo_logs.proofs.DueLemmas.{next_due}
 
 -- ---- what it shows
 
@@ -94,6 +95,8 @@ passed_stands old new l log state sets =
       chain = chains_kept xs old new l.page l.parts same apart log.parts log.chain;
       last = last_is l.state (last_field new l.page) (last_field old l.page) (records_of l) (address_kept xs old new l.page 95 same (inr (inl (lit≤ tt)), tt)) log.last;
       next = next_by_state l.state (next_field new l.page) (next_behind l.next (records_of l)) state sets.here;
+      due = next_due l.next (records_of l);
+      numbered = log.numbered;
     }
 
 pub passed_changes : (old new : Pages) (l : Log) (xs : List Entry) (e : Entry) (ys : List Entry) → IsLog old l → l.state ≢ active → records_of l ≡ xs ++ e ∷ ys → l.next ≡ Some e.at → SetsAddress l.page 101 (or_null (oldest xs)) old new → ChangesOldest passed l old new

@@ -145,20 +145,18 @@ place_not_null count a place few null =
     let z : 4_294_967_295 < 4_294_967_295 = omega (arith, below, e, few) in omega (arith, z)
 
 -- the record read where a pointer leads is the one that stands there
-pub at_same : (told : Option Pages) (pages : Pages) (n : ℕ) (a b : Address) (r x : Record) (previous : Address) → told ≡ Some pages → led n ≡ Some a → led n ≡ Some b → IsRecordAt pages a r previous
-    → IfSome told (λ ps. (q : Address) × IsRecordAt ps b x q) → x ≡ r
-at_same told pages n a b r x previous is ea eb stands found =
-    let f : (q : Address) × IsRecordAt pages b x q = subst (λ (o : Option Pages). IfSome o (λ ps. (q : Address) × IsRecordAt ps b x q)) is found in
-    let e : b ≡ a = some_some b a (sym eb ∙ ea) in
-    (one_record pages a x r f.0 previous (subst (λ (c : Address). IsRecordAt pages c x f.0) e f.1) stands).0
+pub at_same : (told : Option Pages) (pages : Pages) (a : Address) (r x : Record) (previous : Address) → told ≡ Some pages → IsRecordAt pages a r previous
+    → IfSome told (λ ps. (q : Address) × IsRecordAt ps a x q) → x ≡ r
+at_same told pages a r x previous is stands found =
+    let f : (q : Address) × IsRecordAt pages a x q = subst (λ (o : Option Pages). IfSome o (λ ps. (q : Address) × IsRecordAt ps a x q)) is found in
+    (one_record pages a x r f.0 previous f.1 stands).0
 
--- where a pointer leads to a record, reading can't have found none there
-pub at_bad : {X : Type 0} (told : Option Pages) (pages : Pages) (n : ℕ) (a b : Address) (r : Record) (previous : Address) → told ≡ Some pages → led n ≡ Some a → led n ≡ Some b → IsRecordAt pages a r previous
-    → IfSome told (λ ps. IsBad ps b) → X
-at_bad told pages n a b r previous is ea eb stands bad =
-    let f : IsBad pages b = subst (λ (o : Option Pages). IfSome o (λ ps. IsBad ps b)) is bad in
-    let e : a ≡ b = some_some a b (sym ea ∙ eb) in
-    absurd (f r previous (subst (λ (c : Address). IsRecordAt pages c r previous) e stands))
+-- none stands where one does
+pub at_bad : {X : Type 0} (told : Option Pages) (pages : Pages) (a : Address) (r : Record) (previous : Address) → told ≡ Some pages → IsRecordAt pages a r previous
+    → IfSome told (λ ps. IsBad ps a) → X
+at_bad told pages a r previous is stands bad =
+    let f : IsBad pages a = subst (λ (o : Option Pages). IfSome o (λ ps. IsBad ps a)) is bad in
+    absurd (f r previous stands)
 
 pub bad_only : {A : Type 0} (told : Option Pages) (there at : A) (b : Address) → IfSome told (λ ps. (there ≡ at) × IsBad ps b) → IfSome told (λ ps. IsBad ps b)
 bad_only None there at b both = tt
@@ -196,8 +194,8 @@ no_record_names told told' a b (Err (Strange page at value)) same is bad names =
     subst Q is (record { here = subst P same names; bad = bad })
 
 -- the page and the offset that a pointer's bytes hold are the address it leads to
-pub leads_here : (n : ℕ) (a : Address) → 0 < n → led n ≡ Some a → (let x : Address = record { page = (n / 65_536) % 4_294_967_296; at = n % 65_536 } in x) ≡ a
-leads_here n a some is = some_some (record { page = (n / 65_536) % 4_294_967_296; at = n % 65_536 }) a (sym (leads n some) ∙ is)
+pub leads_here : (n : ℕ) (a b : Address) → led n ≡ Some b → led n ≡ Some a → a ≡ b
+leads_here n a b there is = some_some a b (sym is ∙ there)
 
 -- ---- the record before
 

@@ -52,6 +52,8 @@ begun old new l log state sets =
       chain = chains_kept xs old new l.page l.parts same apart log.parts log.chain;
       last = tt;
       next = address_kept xs old new l.page 101 same (apart_if l.page l.page 52 1 101 6 (λ e. inr (lit≤ tt)), tt) ∙ next;
+      due = log.due;
+      numbered = log.numbered;
     }
 
 -- what it shows changes in its state alone

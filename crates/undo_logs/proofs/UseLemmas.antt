@@ -1,8 +1,8 @@
 -- Calls one after another within named pages, and what they make of told ones.
-use Rattle.std.proofs.Common.{◌≡◌, ℕ, ◌+◌, ◌≤◌, List, [], ◌∷◌, ◌++◌, Option, Some, None, refl, sym, arith}
+use Rattle.std.proofs.Common.{◌≡◌, ℕ, ◌+◌, ◌≤◌, List, [], ◌∷◌, Option, Some, None, refl, sym, arith}
 use Rattle.page_model.specs.Pages.{Pages}
 use Rattle.page_model.specs.Steps.{PageState, IsWithin, MayUse, Uses, Told}
-use Rattle.page_model.proofs.StepLemmas.{uses_more, uses_within, uses_at_most, uses_unnamed, uses_other, uses_then, may_use_then, may_less, may_name, within_one, within_two, within_both, within_left, within_right}
+use Rattle.page_model.proofs.StepLemmas.{uses_more, uses_within, uses_at_most, uses_unnamed, uses_other, may_within, may_name, within_one, within_two, within_both, within_left, within_right}
 
 module _ {T : Type 0} {state : T → PageState} {stays : T → T → Type 0} where
   pub begin : (named n : List ℕ) (k b : ℕ) (s t : T) → IsWithin n named → Uses state stays n k b s t → Uses state stays named k b s t
@@ -44,8 +44,12 @@ module _ {T : Type 0} {state : T → PageState} {stays : T → T → Type 0} (ad
   pub open2 : (a b : T) → Uses state stays (0 ∷ []) 0 21 s a → Uses state stays (page ∷ []) 0 64 a b → Uses state stays (page ∷ 0 ∷ log ∷ []) 0 85 s b
   open2 a b u1 u2 = uses_within add (page ∷ 0 ∷ log ∷ []) (page ∷ []) 0 21 0 64 s a b (within_one page (0 ∷ log ∷ [])) (open1 a u1) u2
 
+  -- the page that was taken is named, or counts as another
+  pub open3_named : (a b c : T) → Uses state stays (0 ∷ []) 0 21 s a → Uses state stays (page ∷ []) 0 64 a b → Uses state stays (page ∷ log ∷ []) 1 68 b c → Uses state stays (page ∷ 0 ∷ log ∷ []) 1 153 s c
+  open3_named a b c u1 u2 u3 = uses_within add (page ∷ 0 ∷ log ∷ []) (page ∷ log ∷ []) 0 85 1 68 s b c (skip page 0 log) (open2 a b u1 u2) u3
+
   pub open3 : (a b c : T) → Uses state stays (0 ∷ []) 0 21 s a → Uses state stays (page ∷ []) 0 64 a b → Uses state stays (page ∷ log ∷ []) 1 68 b c → Uses state stays (0 ∷ log ∷ []) 2 153 s c
-  open3 a b c u1 u2 u3 = uses_unnamed page (0 ∷ log ∷ []) 1 153 s c (uses_within add (page ∷ 0 ∷ log ∷ []) (page ∷ log ∷ []) 0 85 1 68 s b c (skip page 0 log) (open2 a b u1 u2) u3)
+  open3 a b c u1 u2 u3 = uses_unnamed page (0 ∷ log ∷ []) 1 153 s c (open3_named a b c u1 u2 u3)
 
   pub open2_all : (a b : T) → Uses state stays (0 ∷ []) 0 21 s a → Uses state stays (page ∷ []) 0 64 a b → Uses state stays (0 ∷ log ∷ []) 2 153 s b
   open2_all a b u1 u2 = uses_at_most (0 ∷ log ∷ []) 1 85 2 153 s b (omega arith) (omega arith) (uses_unnamed page (0 ∷ log ∷ []) 0 85 s b (open2 a b u1 u2))
@@ -65,6 +69,16 @@ module _ {T : Type 0} {state : T → PageState} {stays : T → T → Type 0} (ad
   pub place3 : (a b c : T) → Uses state stays (log ∷ []) 0 0 s a → Uses state stays (q ∷ []) 0 0 a b → Uses state stays (0 ∷ log ∷ []) 2 153 b c → Uses state stays (log ∷ 0 ∷ []) 3 153 s c
   place3 a b c u1 u2 u3 = uses_within add (log ∷ 0 ∷ []) (0 ∷ log ∷ []) 1 0 2 153 s b c (swap log 0) (place2 a b u1 u2) u3
 
+  -- where the page of the place is named: the newest one, or the one that was opened
+  pub place2_named : (a b : T) → Uses state stays (log ∷ []) 0 0 s a → Uses state stays (q ∷ []) 0 0 a b → Uses state stays (q ∷ log ∷ 0 ∷ []) 2 153 s b
+  place2_named a b u1 u2 = uses_at_most (q ∷ log ∷ 0 ∷ []) 0 0 2 153 s b (omega arith) (omega arith)
+      (uses_within add (q ∷ log ∷ 0 ∷ []) (q ∷ []) 0 0 0 0 s a b (within_one q (log ∷ 0 ∷ [])) (begin (q ∷ log ∷ 0 ∷ []) (log ∷ []) 0 0 s a (within_two q log (0 ∷ [])) u1) u2)
+
+  pub place3_named : (page : ℕ) (a b c : T) → Uses state stays (log ∷ []) 0 0 s a → Uses state stays (q ∷ []) 0 0 a b → Uses state stays (page ∷ 0 ∷ log ∷ []) 1 153 b c → Uses state stays (page ∷ log ∷ 0 ∷ []) 2 153 s c
+  place3_named page a b c u1 u2 u3 = uses_within add (page ∷ log ∷ 0 ∷ []) (page ∷ 0 ∷ log ∷ []) 1 0 1 153 s b c
+      (within_both (page ∷ []) (0 ∷ log ∷ []) (page ∷ log ∷ 0 ∷ []) (within_one page (log ∷ 0 ∷ [])) (λ n is. within_right (page ∷ []) (log ∷ 0 ∷ []) n (swap log 0 n is)))
+      (uses_other add (page ∷ log ∷ 0 ∷ []) q 0 0 0 s a b (begin (page ∷ log ∷ 0 ∷ []) (log ∷ []) 0 0 s a (within_two page log (0 ∷ [])) u1) u2) u3
+
 -- a record is appended: the last one's address is read, a place is found, the record is put
 module _ {T : Type 0} {state : T → PageState} {stays : T → T → Type 0} (add : (a b c : T) → stays a b → stays b c → stays a c) (log page n : ℕ) (s : T) where
   pub append1 : (a : T) → Uses state stays (log ∷ []) 0 0 s a → Uses state stays (log ∷ 0 ∷ []) 0 0 s a
@@ -73,22 +87,22 @@ module _ {T : Type 0} {state : T → PageState} {stays : T → T → Type 0} (ad
   pub append2 : (a b : T) → Uses state stays (log ∷ []) 0 0 s a → Uses state stays (log ∷ 0 ∷ []) 3 153 a b → Uses state stays (log ∷ 0 ∷ []) 3 153 s b
   append2 a b u1 u2 = uses_within add (log ∷ 0 ∷ []) (log ∷ 0 ∷ []) 0 0 3 153 s a b (λ m is. is) (append1 a u1) u2
 
-  pub append3 : (a b c : T) → Uses state stays (log ∷ []) 0 0 s a → Uses state stays (log ∷ 0 ∷ []) 3 153 a b → Uses state stays (page ∷ log ∷ []) 0 (n + 8 + 24) b c → Uses state stays (log ∷ 0 ∷ []) 4 (n + 185) s c
-  append3 a b c u1 u2 u3 =
-      uses_at_most (log ∷ 0 ∷ []) (3 + 0 + 1) (153 + (n + 8 + 24)) 4 (n + 185) s c (omega arith) (omega arith)
-      (uses_more (log ∷ log ∷ 0 ∷ []) (log ∷ 0 ∷ []) (3 + 0 + 1) (3 + 0 + 1) (153 + (n + 8 + 24)) (153 + (n + 8 + 24)) s c
-      (uses_unnamed page (log ∷ log ∷ 0 ∷ []) (3 + 0) (153 + (n + 8 + 24)) s c (uses_then add (log ∷ 0 ∷ []) (page ∷ log ∷ []) 3 0 153 (n + 8 + 24) s b c (append2 a b u1 u2) u3))
-      (within_both (log ∷ []) (log ∷ 0 ∷ []) (log ∷ 0 ∷ []) (within_one log (0 ∷ [])) (λ m is. is)) (omega arith) (omega arith))
+  -- the page of the place is named, and the record goes there
+  pub append2_named : (a b : T) → Uses state stays (log ∷ []) 0 0 s a → Uses state stays (page ∷ log ∷ 0 ∷ []) 2 153 a b → Uses state stays (page ∷ log ∷ 0 ∷ []) 2 153 s b
+  append2_named a b u1 u2 =
+      uses_within add (page ∷ log ∷ 0 ∷ []) (page ∷ log ∷ 0 ∷ []) 0 0 2 153 s a b (λ m is. is) (begin (page ∷ log ∷ 0 ∷ []) (log ∷ []) 0 0 s a (within_two page log (0 ∷ [])) u1) u2
 
--- the put record's page is one more
-pub may_put : {T : Type 0} {state : T → PageState} {stays : T → T → Type 0} (log page n : ℕ) (s t : T) → MayUse (log ∷ 0 ∷ []) 4 (n + 185) (state s) → Uses state stays (log ∷ 0 ∷ []) 3 153 s t
+  pub append3 : (a b c : T) → Uses state stays (log ∷ []) 0 0 s a → Uses state stays (page ∷ log ∷ 0 ∷ []) 2 153 a b → Uses state stays (page ∷ log ∷ []) 0 (n + 8 + 24) b c → Uses state stays (log ∷ 0 ∷ []) 3 (n + 185) s c
+  append3 a b c u1 u2 u3 = uses_at_most (log ∷ 0 ∷ []) 3 (153 + (n + 8 + 24)) 3 (n + 185) s c (omega arith) (omega arith)
+      (uses_unnamed page (log ∷ 0 ∷ []) 2 (153 + (n + 8 + 24)) s c
+      (uses_within add (page ∷ log ∷ 0 ∷ []) (page ∷ log ∷ []) 2 153 0 (n + 8 + 24) s b c (λ m is. within_left (page ∷ log ∷ []) (0 ∷ []) m is) (append2_named a b u1 u2) u3))
+
+-- the page of the place is one of the three others
+pub may_put : {T : Type 0} {state : T → PageState} {stays : T → T → Type 0} (log page n : ℕ) (s t : T) → MayUse (log ∷ 0 ∷ []) 3 (n + 185) (state s) → Uses state stays (page ∷ log ∷ 0 ∷ []) 2 153 s t
     → MayUse (page ∷ log ∷ []) 0 (n + 8 + 24) (state t)
 may_put {state = state} log page n s t may uses =
-    may_use_then (log ∷ 0 ∷ []) (page ∷ log ∷ []) 3 0 153 (n + 8 + 24) s t
-    (may_less (page ∷ log ∷ 0 ∷ []) ((page ∷ log ∷ []) ++ log ∷ 0 ∷ []) 3 (3 + 0) (n + 185) (153 + (n + 8 + 24)) (state s) (may_name page (log ∷ 0 ∷ []) 3 (n + 185) (state s) may)
-    (within_both (page ∷ log ∷ []) (log ∷ 0 ∷ []) (page ∷ log ∷ 0 ∷ [])
-    (within_both (page ∷ []) (log ∷ []) (page ∷ log ∷ 0 ∷ []) (within_one page (log ∷ 0 ∷ [])) (within_two page log (0 ∷ [])))
-    (λ m is. within_right (page ∷ []) (log ∷ 0 ∷ []) m is)) (omega arith) (omega arith)) uses
+    may_within (page ∷ log ∷ 0 ∷ []) (page ∷ log ∷ []) 2 (n + 185) 2 153 0 (n + 8 + 24) s t (λ m is. within_left (page ∷ log ∷ []) (0 ∷ []) m is) (omega arith) (omega arith)
+    (may_name page (log ∷ 0 ∷ []) 2 (n + 185) (state s) may) uses
 
 -- a log is begun: a page taken, started, put in front of the active logs
 module _ {T : Type 0} {state : T → PageState} {stays : T → T → Type 0} (add : (a b c : T) → stays a b → stays b c → stays a c) (page : ℕ) (s : T) where
@@ -106,14 +120,14 @@ module _ {T : Type 0} {state : T → PageState} {stays : T → T → Type 0} (ad
 
 -- a page is dropped: its node taken out of the list, the page given back, the last record set
 module _ {T : Type 0} {state : T → PageState} {stays : T → T → Type 0} (add : (a b c : T) → stays a b → stays b c → stays a c) (page log : ℕ) (s : T) where
-  pub drop1 : (a : T) → Uses state stays (page ∷ log ∷ []) 2 40 s a → Uses state stays (page ∷ log ∷ 0 ∷ []) 2 40 s a
-  drop1 a u1 = begin (page ∷ log ∷ 0 ∷ []) (page ∷ log ∷ []) 2 40 s a (λ n is. within_left (page ∷ log ∷ []) (0 ∷ []) n is) u1
+  pub drop1 : (a : T) → Uses state stays (page ∷ log ∷ []) 1 40 s a → Uses state stays (page ∷ log ∷ 0 ∷ []) 1 40 s a
+  drop1 a u1 = begin (page ∷ log ∷ 0 ∷ []) (page ∷ log ∷ []) 1 40 s a (λ n is. within_left (page ∷ log ∷ []) (0 ∷ []) n is) u1
 
-  pub drop2 : (a b : T) → Uses state stays (page ∷ log ∷ []) 2 40 s a → Uses state stays (0 ∷ []) 0 21 a b → Uses state stays (page ∷ log ∷ 0 ∷ []) 2 61 s b
-  drop2 a b u1 u2 = uses_within add (page ∷ log ∷ 0 ∷ []) (0 ∷ []) 2 40 0 21 s a b (λ n is. within_right (page ∷ log ∷ []) (0 ∷ []) n is) (drop1 a u1) u2
+  pub drop2 : (a b : T) → Uses state stays (page ∷ log ∷ []) 1 40 s a → Uses state stays (0 ∷ []) 0 21 a b → Uses state stays (page ∷ log ∷ 0 ∷ []) 1 61 s b
+  drop2 a b u1 u2 = uses_within add (page ∷ log ∷ 0 ∷ []) (0 ∷ []) 1 40 0 21 s a b (λ n is. within_right (page ∷ log ∷ []) (0 ∷ []) n is) (drop1 a u1) u2
 
-  pub drop_last : (a b : T) → Uses state stays (page ∷ log ∷ 0 ∷ []) 2 61 s a → Uses state stays (log ∷ []) 0 14 a b → Uses state stays (page ∷ log ∷ 0 ∷ []) 2 75 s b
-  drop_last a b u1 u2 = uses_within add (page ∷ log ∷ 0 ∷ []) (log ∷ []) 2 61 0 14 s a b (within_two page log (0 ∷ [])) u1 u2
+  pub drop_last : (a b : T) → Uses state stays (page ∷ log ∷ 0 ∷ []) 1 61 s a → Uses state stays (log ∷ []) 0 14 a b → Uses state stays (page ∷ log ∷ 0 ∷ []) 1 75 s b
+  drop_last a b u1 u2 = uses_within add (page ∷ log ∷ 0 ∷ []) (log ∷ []) 1 61 0 14 s a b (within_two page log (0 ∷ [])) u1 u2
 
 -- a log ends: its node taken out of the list, its pages given back
 module _ {T : Type 0} {state : T → PageState} {stays : T → T → Type 0} (add : (a b c : T) → stays a b → stays b c → stays a c) (log : ℕ) (s : T) where
@@ -143,8 +157,8 @@ module _ {T : Type 0} {state : T → PageState} {stays : T → T → Type 0} (ad
   pub pop_end : (a b c : T) → Uses state stays (log ∷ []) 0 0 s a → Uses state stays (page ∷ []) 0 0 a b → Uses state stays (log ∷ 0 ∷ []) 2 82 b c → Uses state stays (log ∷ 0 ∷ []) 3 82 s c
   pop_end a b c u1 u2 u3 = others 2 82 c (omega arith) (omega arith) (uses_within add (page ∷ log ∷ 0 ∷ []) (log ∷ 0 ∷ []) 0 0 2 82 s b c (λ n is. within_right (page ∷ []) (log ∷ 0 ∷ []) n is) (pop2 a b u1 u2) u3)
 
-  pub pop_cut : (a b c : T) → Uses state stays (log ∷ []) 0 0 s a → Uses state stays (page ∷ []) 0 0 a b → Uses state stays (page ∷ log ∷ 0 ∷ []) 2 75 b c → Uses state stays (log ∷ 0 ∷ []) 3 82 s c
-  pop_cut a b c u1 u2 u3 = others 2 75 c (omega arith) (omega arith) (uses_within add (page ∷ log ∷ 0 ∷ []) (page ∷ log ∷ 0 ∷ []) 0 0 2 75 s b c (λ n is. is) (pop2 a b u1 u2) u3)
+  pub pop_cut : (a b c : T) → Uses state stays (log ∷ []) 0 0 s a → Uses state stays (page ∷ []) 0 0 a b → Uses state stays (page ∷ log ∷ 0 ∷ []) 1 75 b c → Uses state stays (log ∷ 0 ∷ []) 3 82 s c
+  pop_cut a b c u1 u2 u3 = others 1 75 c (omega arith) (omega arith) (uses_within add (page ∷ log ∷ 0 ∷ []) (page ∷ log ∷ 0 ∷ []) 0 0 1 75 s b c (λ n is. is) (pop2 a b u1 u2) u3)
 
 -- room for three pages besides the log's and page 0 is room for two once one is named
 pub may_pop : (page log : ℕ) (s : PageState) → MayUse (log ∷ 0 ∷ []) 3 82 s → MayUse (page ∷ log ∷ 0 ∷ []) 2 82 s
@@ -155,34 +169,34 @@ module _ {T : Type 0} {state : T → PageState} {stays : T → T → Type 0} (ad
   pub gone1 : (a : T) → Uses state stays (0 ∷ []) 0 0 s a → Uses state stays (log ∷ 0 ∷ []) 0 0 s a
   gone1 a u1 = begin (log ∷ 0 ∷ []) (0 ∷ []) 0 0 s a (within_two log 0 []) u1
 
-  pub gone2 : (a b : T) → Uses state stays (0 ∷ []) 0 0 s a → Uses state stays (log ∷ 0 ∷ []) 2 40 a b → Uses state stays (log ∷ 0 ∷ []) 2 40 s b
-  gone2 a b u1 u2 = uses_within add (log ∷ 0 ∷ []) (log ∷ 0 ∷ []) 0 0 2 40 s a b (λ n is. is) (gone1 a u1) u2
+  pub gone2 : (a b : T) → Uses state stays (0 ∷ []) 0 0 s a → Uses state stays (log ∷ 0 ∷ []) 1 40 a b → Uses state stays (log ∷ 0 ∷ []) 1 40 s b
+  gone2 a b u1 u2 = uses_within add (log ∷ 0 ∷ []) (log ∷ 0 ∷ []) 0 0 1 40 s a b (λ n is. is) (gone1 a u1) u2
 
-  pub gone3 : (a b c : T) → Uses state stays (0 ∷ []) 0 0 s a → Uses state stays (log ∷ 0 ∷ []) 2 40 a b → Uses state stays (0 ∷ []) 0 21 b c → Uses state stays (log ∷ 0 ∷ []) 2 61 s c
-  gone3 a b c u1 u2 u3 = uses_within add (log ∷ 0 ∷ []) (0 ∷ []) 2 40 0 21 s b c (within_two log 0 []) (gone2 a b u1 u2) u3
+  pub gone3 : (a b c : T) → Uses state stays (0 ∷ []) 0 0 s a → Uses state stays (log ∷ 0 ∷ []) 1 40 a b → Uses state stays (0 ∷ []) 0 21 b c → Uses state stays (log ∷ 0 ∷ []) 1 61 s c
+  gone3 a b c u1 u2 u3 = uses_within add (log ∷ 0 ∷ []) (0 ∷ []) 1 40 0 21 s b c (within_two log 0 []) (gone2 a b u1 u2) u3
 
-  pub gone4 : (a b c d : T) → Uses state stays (0 ∷ []) 0 0 s a → Uses state stays (log ∷ 0 ∷ []) 2 40 a b → Uses state stays (0 ∷ []) 0 21 b c → Uses state stays (0 ∷ []) 0 16 c d → Uses state stays (log ∷ 0 ∷ []) 2 77 s d
-  gone4 a b c d u1 u2 u3 u4 = uses_within add (log ∷ 0 ∷ []) (0 ∷ []) 2 61 0 16 s c d (within_two log 0 []) (gone3 a b c u1 u2 u3) u4
+  pub gone4 : (a b c d : T) → Uses state stays (0 ∷ []) 0 0 s a → Uses state stays (log ∷ 0 ∷ []) 1 40 a b → Uses state stays (0 ∷ []) 0 21 b c → Uses state stays (0 ∷ []) 0 16 c d → Uses state stays (log ∷ 0 ∷ []) 1 77 s d
+  gone4 a b c d u1 u2 u3 u4 = uses_within add (log ∷ 0 ∷ []) (0 ∷ []) 1 61 0 16 s c d (within_two log 0 []) (gone3 a b c u1 u2 u3) u4
 
-  pub gone_all : (k n : ℕ) (t : T) → k ≤ 2 → n ≤ 77 → Uses state stays (log ∷ 0 ∷ []) k n s t → Uses state stays (log ∷ 0 ∷ []) 2 77 s t
-  gone_all k n t few short u = uses_at_most (log ∷ 0 ∷ []) k n 2 77 s t few short u
+  pub gone_all : (k n : ℕ) (t : T) → k ≤ 1 → n ≤ 77 → Uses state stays (log ∷ 0 ∷ []) k n s t → Uses state stays (log ∷ 0 ∷ []) 1 77 s t
+  gone_all k n t few short u = uses_at_most (log ∷ 0 ∷ []) k n 1 77 s t few short u
 
 -- the newest page of a purged log goes: its number read, and the page dropped or the log ended
 module _ {T : Type 0} {state : T → PageState} {stays : T → T → Type 0} (add : (a b c : T) → stays a b → stays b c → stays a c) (page log : ℕ) (s : T) where
-  pub purge1 : (a : T) → Uses state stays (log ∷ []) 0 0 s a → Uses state stays (log ∷ 0 ∷ []) 3 77 s a
-  purge1 a u1 = uses_at_most (log ∷ 0 ∷ []) 0 0 3 77 s a (omega arith) (omega arith) (begin (log ∷ 0 ∷ []) (log ∷ []) 0 0 s a (within_one log (0 ∷ [])) u1)
+  pub purge1 : (a : T) → Uses state stays (log ∷ []) 0 0 s a → Uses state stays (log ∷ 0 ∷ []) 2 77 s a
+  purge1 a u1 = uses_at_most (log ∷ 0 ∷ []) 0 0 2 77 s a (omega arith) (omega arith) (begin (log ∷ 0 ∷ []) (log ∷ []) 0 0 s a (within_one log (0 ∷ [])) u1)
 
-  pub purge_end : (a b : T) → Uses state stays (log ∷ []) 0 0 s a → Uses state stays (log ∷ 0 ∷ []) 2 77 a b → Uses state stays (log ∷ 0 ∷ []) 3 77 s b
-  purge_end a b u1 u2 = uses_at_most (log ∷ 0 ∷ []) 2 77 3 77 s b (omega arith) (omega arith)
-      (uses_within add (log ∷ 0 ∷ []) (log ∷ 0 ∷ []) 0 0 2 77 s a b (λ n is. is) (begin (log ∷ 0 ∷ []) (log ∷ []) 0 0 s a (within_one log (0 ∷ [])) u1) u2)
+  pub purge_end : (a b : T) → Uses state stays (log ∷ []) 0 0 s a → Uses state stays (log ∷ 0 ∷ []) 1 77 a b → Uses state stays (log ∷ 0 ∷ []) 2 77 s b
+  purge_end a b u1 u2 = uses_at_most (log ∷ 0 ∷ []) 1 77 2 77 s b (omega arith) (omega arith)
+      (uses_within add (log ∷ 0 ∷ []) (log ∷ 0 ∷ []) 0 0 1 77 s a b (λ n is. is) (begin (log ∷ 0 ∷ []) (log ∷ []) 0 0 s a (within_one log (0 ∷ [])) u1) u2)
 
-  pub purge_drop : (a b : T) → Uses state stays (log ∷ []) 0 0 s a → Uses state stays (page ∷ log ∷ 0 ∷ []) 2 61 a b → Uses state stays (log ∷ 0 ∷ []) 3 77 s b
-  purge_drop a b u1 u2 = uses_at_most (log ∷ 0 ∷ []) 3 61 3 77 s b (omega arith) (omega arith)
-      (uses_unnamed page (log ∷ 0 ∷ []) 2 61 s b (uses_within add (page ∷ log ∷ 0 ∷ []) (page ∷ log ∷ 0 ∷ []) 0 0 2 61 s a b (λ n is. is) (begin (page ∷ log ∷ 0 ∷ []) (log ∷ []) 0 0 s a (within_two page log (0 ∷ [])) u1) u2))
+  pub purge_drop : (a b : T) → Uses state stays (log ∷ []) 0 0 s a → Uses state stays (page ∷ log ∷ 0 ∷ []) 1 61 a b → Uses state stays (log ∷ 0 ∷ []) 2 77 s b
+  purge_drop a b u1 u2 = uses_at_most (log ∷ 0 ∷ []) 2 61 2 77 s b (omega arith) (omega arith)
+      (uses_unnamed page (log ∷ 0 ∷ []) 1 61 s b (uses_within add (page ∷ log ∷ 0 ∷ []) (page ∷ log ∷ 0 ∷ []) 0 0 1 61 s a b (λ n is. is) (begin (page ∷ log ∷ 0 ∷ []) (log ∷ []) 0 0 s a (within_two page log (0 ∷ [])) u1) u2))
 
--- the page that is dropped counts as one of the three others
-pub may_drop : (page log : ℕ) (s : PageState) → MayUse (log ∷ 0 ∷ []) 3 77 s → MayUse (page ∷ log ∷ 0 ∷ []) 2 77 s
-may_drop page log s may = may_name page (log ∷ 0 ∷ []) 2 77 s may
+-- the page that is dropped counts as one of the two others
+pub may_drop : (page log : ℕ) (s : PageState) → MayUse (log ∷ 0 ∷ []) 2 77 s → MayUse (page ∷ log ∷ 0 ∷ []) 1 77 s
+may_drop page log s may = may_name page (log ∷ 0 ∷ []) 1 77 s may
 
 -- a log is committed: the count read, the first record found, the log marked, its node moved, the count raised
 module _ {T : Type 0} {state : T → PageState} {stays : T → T → Type 0} (add : (a b c : T) → stays a b → stays b c → stays a c) (log : ℕ) (s : T) where

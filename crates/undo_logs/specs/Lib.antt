@@ -8,3 +8,4 @@ pub mod Pops
 pub mod Forward
 pub mod Drops
 pub mod Commits
+pub mod Purged

@@ -24,7 +24,7 @@ pub record CutsEnd (log : ℕ) (a previous : Address) (old new : Pages) : Type 0
 -- the page's node is the last of the list
 pub record DropsNode (log : ℕ) (nodes : List Address) (page : ℕ) (old new : Pages) : Type 0 where
   pub unlinked : Pages
-  pub change : ChangesList (pages_base log) (nodes ++ node_of page ∷ []) (nodes ++ []) old unlinked
+  pub change : ChangesList (pages_base log) (nodes ++ node_of page ∷ []) nodes old unlinked
   pub gives : GivesPage page unlinked new
 
 pub record DropsPage (log : ℕ) (nodes : List Address) (page : ℕ) (previous : Address)

@@ -1,5 +1,5 @@
 // A record appended.
-ghost use Rattle.std.specs.Prelude.{◌≡◌, ◌+◌, ◌*◌, ◌≤◌, ◌<◌, [], ◌∷◌, Some, IfOk, IfErr, IfSome};
+ghost use Rattle.std.specs.Prelude.{◌≡◌, ◌+◌, ◌*◌, ◌≤◌, ◌<◌, [], ◌∷◌, length, Some, IfOk, IfErr, IfSome};
 ghost use Rattle.page_model.specs.Pages.{Pages};
 ghost use Rattle.page_model.specs.Steps.{MayUse, Uses, Becomes, write_head};
 ghost use Rattle.engine_base.specs.Faults.{HasCause, FailsPlainly};
@@ -8,7 +8,7 @@ ghost use Rattle.page_space.specs.Map.{IsSize, free_of};
 ghost use Rattle.undo_model.specs.Data.{Log, pointer};
 ghost use Rattle.undo_model.specs.Bytes.{record_size};
 ghost use Rattle.undo_model.specs.Reading.{IsSoundRecord, IsSoundPrevious, record_end};
-ghost use Rattle.undo_model.specs.Logs.{IfLog, last_field};
+ghost use Rattle.undo_model.specs.Logs.{IfLog, last_field, records_of};
 ghost use Rattle.undo_records.specs.Records.{record_of};
 ghost use Rattle.store_parts.specs.Appends.{CanAppend, AppendsRecord, newest_page_of};
 ghost use Rattle.undo_logs.specs.Places.{IsPlaced};
@@ -100,6 +100,9 @@ fn place<P: Pages>(p: &mut P, space: &mut Space, log: PageNo, size: usize) -> Re
     ensures never { (pages : Pages) (l : Log) → (P.state p.old).told ≡ Some pages
         → l.page ≡ log.0 → CanAppend l pages → space.old ≤ free_of pages → FailsPlainly result }
     ensures cause { HasCause (P.state p.old).faults (P.state p.new).faults result }
+    // The page of the place is one of those touched.
+    ensures named { IfOk result (λ at. Uses P.state P.stays (at.page.0 ∷ log.0 ∷ 0 ∷ []) 2
+        (89 + 8 * write_head) p.old p.new) }
     ensures uses { Uses P.state P.stays (log.0 ∷ 0 ∷ []) 3 (89 + 8 * write_head) p.old p.new }
 {
     let page = newest_page(p, log)?;
@@ -118,9 +121,12 @@ fn place<P: Pages>(p: &mut P, space: &mut Space, log: PageNo, size: usize) -> Re
 }
 
 /// Puts a record behind the log's others and answers the pointer to it. The condition is that a
-/// page is reserved: one is taken where the record doesn't fit behind the others. Touches the log's
-/// first page and the newest one, and at most page 0, one that is taken and one beside. Writes
-/// the record and 8 bytes in three writes, and 89 bytes in eight where a page is taken.
+/// page is reserved: one is taken where the record doesn't fit behind the others. A transaction's
+/// records have the undo numbers from 0 on, so this one has the number of those before it. Touches
+/// the log's first page and the newest one and, where a page is taken, that one, page 0 and that of
+/// the node which the list of the log's pages ended with, which is the newest one's where the list
+/// stands. Writes the record and 8 bytes in three writes, and 89 bytes in eight where a page is
+/// taken.
 pub fn append<P: Pages>(
     p: &mut P,
     space: &mut Space,
@@ -131,16 +137,17 @@ pub fn append<P: Pages>(
     requires size { IsSize (P.state p.old).count }
     requires log { log.0 < (P.state p.old).count }
     requires sound { IsSoundRecord (P.state p.old).count (record_of rec.now) }
-    requires may { MayUse (log.0 ∷ 0 ∷ []) 4
+    requires may { MayUse (log.0 ∷ 0 ∷ []) 3
         (record_size (record_of rec.now) + (97 + 11 * write_head)) (P.state p.old) }
     ensures appends { (pages : Pages) (l : Log) → (P.state p.old).told ≡ Some pages
         → l.page ≡ log.0 → CanAppend l pages → space.old ≤ free_of pages
+        → (record_of rec.now).number ≡ length (records_of l)
         → IfOk result (λ roll. Becomes (P.state p.new).told (λ new.
         AppendsRecord l (record_of rec.now) roll.0 pages new × (space.new ≤ free_of new))) }
     ensures never { (pages : Pages) (l : Log) → (P.state p.old).told ≡ Some pages
         → l.page ≡ log.0 → CanAppend l pages → space.old ≤ free_of pages → FailsPlainly result }
     ensures cause { HasCause (P.state p.old).faults (P.state p.new).faults result }
-    ensures uses { Uses P.state P.stays (log.0 ∷ 0 ∷ []) 4
+    ensures uses { Uses P.state P.stays (log.0 ∷ 0 ∷ []) 3
         (record_size (record_of rec.now) + (97 + 11 * write_head)) p.old p.new }
 {
     let previous = previous_of(p, log)?;

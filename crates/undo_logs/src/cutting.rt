@@ -11,7 +11,7 @@ ghost use Rattle.undo_logs.specs.Pops.{CutsEnd, DropsNode, DropsPage};
 
 use crate::layout::{END, LAST, PAGE_NODE, PAGES_BASE};
 use engine_base::{Addr, Fault, PageNo, Pages, write_address, write_field};
-use file_lists::remove;
+use file_lists::remove_last;
 use page_space::Space;
 
 /// Ends the used part of a page where that record begins, and makes the one before it the log's
@@ -38,7 +38,7 @@ pub(crate) fn cut_end<P: Pages>(
 }
 
 /// Takes the log's newest page out of its list and gives it back. Touches that page, the log's
-/// first one, page 0 and those of the nodes beside, and writes 21 bytes in five writes.
+/// first one, page 0 and that of the node before, and writes 21 bytes in five writes.
 pub(crate) fn drop_node<P: Pages>(
     p: &mut P,
     space: &mut Space,
@@ -48,7 +48,7 @@ pub(crate) fn drop_node<P: Pages>(
     requires size { IsSize (P.state p.old).count }
     requires log { log.0 < (P.state p.old).count }
     requires page { page.0 < (P.state p.old).count }
-    requires may { MayUse (page.0 ∷ log.0 ∷ 0 ∷ []) 2 (21 + 5 * write_head) (P.state p.old) }
+    requires may { MayUse (page.0 ∷ log.0 ∷ 0 ∷ []) 1 (21 + 5 * write_head) (P.state p.old) }
     ensures drops { (pages : Pages) (nodes : List Address) → (P.state p.old).told ≡ Some pages
         → CanOpen log.0 (nodes ++ node_of page.0 ∷ []) pages
         → OnOk result (Becomes (P.state p.new).told (DropsNode log.0 nodes page.0 pages)) }
@@ -56,10 +56,10 @@ pub(crate) fn drop_node<P: Pages>(
     ensures never { (pages : Pages) (nodes : List Address) → (P.state p.old).told ≡ Some pages
         → CanOpen log.0 (nodes ++ node_of page.0 ∷ []) pages → FailsPlainly result }
     ensures cause { HasCause (P.state p.old).faults (P.state p.new).faults result }
-    ensures uses { Uses P.state P.stays (page.0 ∷ log.0 ∷ 0 ∷ []) 2 (21 + 5 * write_head)
+    ensures uses { Uses P.state P.stays (page.0 ∷ log.0 ∷ 0 ∷ []) 1 (21 + 5 * write_head)
         p.old p.new }
 {
-    remove(
+    remove_last(
         p,
         Addr {
             page: log,
@@ -85,7 +85,7 @@ pub(crate) fn drop_newest<P: Pages>(
     requires size { IsSize (P.state p.old).count }
     requires log { log.0 < (P.state p.old).count }
     requires page { page.0 < (P.state p.old).count }
-    requires may { MayUse (page.0 ∷ log.0 ∷ 0 ∷ []) 2 (27 + 6 * write_head) (P.state p.old) }
+    requires may { MayUse (page.0 ∷ log.0 ∷ 0 ∷ []) 1 (27 + 6 * write_head) (P.state p.old) }
     ensures drops { (pages : Pages) (nodes : List Address) → (P.state p.old).told ≡ Some pages
         → CanOpen log.0 (nodes ++ node_of page.0 ∷ []) pages
         → OnOk result (Becomes (P.state p.new).told
@@ -94,7 +94,7 @@ pub(crate) fn drop_newest<P: Pages>(
     ensures never { (pages : Pages) (nodes : List Address) → (P.state p.old).told ≡ Some pages
         → CanOpen log.0 (nodes ++ node_of page.0 ∷ []) pages → FailsPlainly result }
     ensures cause { HasCause (P.state p.old).faults (P.state p.new).faults result }
-    ensures uses { Uses P.state P.stays (page.0 ∷ log.0 ∷ 0 ∷ []) 2 (27 + 6 * write_head)
+    ensures uses { Uses P.state P.stays (page.0 ∷ log.0 ∷ 0 ∷ []) 1 (27 + 6 * write_head)
         p.old p.new }
 {
     drop_node(p, space, log, page)?;

@@ -12,6 +12,7 @@ mod forward;
 mod layout;
 mod opening;
 mod popping;
+mod purged;
 mod put;
 mod reads;
 
@@ -21,6 +22,7 @@ pub use committed::{begin_purge, purged_one};
 pub use committing::commit;
 pub use dropping::drop_page;
 pub use popping::pop_last;
+pub use purged::is_purged;
 pub use reads::{at, last, next_to_purge, oldest_committed, purge_begun};
 
 #[cfg(test)]

@@ -41,8 +41,9 @@ fn start<P: Pages>(p: &mut P, page: PageNo, log: PageNo) -> Result<(), Fault>
     Ok(())
 }
 
-/// Takes a reserved page and puts it behind the log's others. Touches the log's first page, page 0
-/// and two others, and writes 89 bytes in eight writes.
+/// Takes a reserved page and puts it behind the log's others. Touches the log's first page, page 0,
+/// the page that is taken and that of the node which was the last, and writes 89 bytes in eight
+/// writes.
 pub(crate) fn open_page<P: Pages>(
     p: &mut P,
     space: &mut Space,
@@ -61,6 +62,9 @@ pub(crate) fn open_page<P: Pages>(
     ensures never { (pages : Pages) (nodes : List Address) → (P.state p.old).told ≡ Some pages
         → CanOpen log.0 nodes pages → space.old ≤ free_of pages → FailsPlainly result }
     ensures cause { HasCause (P.state p.old).faults (P.state p.new).faults result }
+    // The page that is taken is one of those touched.
+    ensures named { IfOk result (λ page. Uses P.state P.stays (page.0 ∷ 0 ∷ log.0 ∷ []) 1
+        (89 + 8 * write_head) p.old p.new) }
     ensures uses { Uses P.state P.stays (0 ∷ log.0 ∷ []) 2 (89 + 8 * write_head) p.old p.new }
 {
     let page = space.take(p)?;

@@ -79,7 +79,7 @@ fn cut_newest<P: Pages>(
     requires size { IsSize (P.state p.old).count }
     requires log { log.0 < (P.state p.old).count }
     requires page { at.page.0 < (P.state p.old).count }
-    requires may { MayUse (at.page.0 ∷ log.0 ∷ 0 ∷ []) 2 (27 + 6 * write_head) (P.state p.old) }
+    requires may { MayUse (at.page.0 ∷ log.0 ∷ 0 ∷ []) 1 (27 + 6 * write_head) (P.state p.old) }
     ensures pops { (pages : Pages) (l : Log) (e f : Entry) (older : List Entry)
         → (P.state p.old).told ≡ Some pages → l.page ≡ log.0 → CanAppend l pages
         → records_of l ≡ e ∷ f ∷ older → address_of at ≡ e.at → address_of previous ≡ f.at
@@ -91,7 +91,7 @@ fn cut_newest<P: Pages>(
         → records_of l ≡ e ∷ f ∷ older → address_of at ≡ e.at → address_of previous ≡ f.at
         → FailsPlainly result }
     ensures cause { HasCause (P.state p.old).faults (P.state p.new).faults result }
-    ensures uses { Uses P.state P.stays (at.page.0 ∷ log.0 ∷ 0 ∷ []) 2 (27 + 6 * write_head)
+    ensures uses { Uses P.state P.stays (at.page.0 ∷ log.0 ∷ 0 ∷ []) 1 (27 + 6 * write_head)
         p.old p.new }
 {
     if at.at == OTHER_START {
@@ -160,8 +160,10 @@ fn end_log<P: Pages>(p: &mut P, space: &mut Space, log: PageNo, page: PageNo) ->
 
 /// Takes the newest record of an active log out, and gives its page back where it has no other. The
 /// condition is that the log has a record. False exactly where none is left: then the log is in no
-/// list, and its first page is given back too. Touches the log's first page, that of the record,
-/// page 0 and at most two others, and writes at most 27 bytes, in at most seven writes.
+/// list, and its first page is given back too. Touches the log's first page, page 0 and at most
+/// three others: that of the record, which need not be the first one even where no other is before
+/// it, and those of the two logs beside this one in the list; where a record is before it, that of
+/// the record and the page added before that. Writes at most 27 bytes, in at most seven writes.
 pub fn pop_last<P: Pages>(p: &mut P, space: &mut Space, log: PageNo) -> Result<bool, Fault>
     requires size { IsSize (P.state p.old).count }
     requires log { log.0 < (P.state p.old).count }

@@ -92,6 +92,17 @@ pub fn next_to_purge<P: Pages>(p: &mut P, log: PageNo) -> Result<Option<RollPtr>
     pointer_to(p, log, NEXT, a)
 }
 
+// Where a pointer leads that isn't none.
+pub(crate) fn leads_to(roll: RollPtr) -> Addr
+    requires some { 0 < roll.0 }
+    ensures { led roll.0 ≡ Some (address_of result) }
+{
+    Addr {
+        page: PageNo((roll.0 / 65_536 % 4_294_967_296) as u32),
+        at: (roll.0 % 65_536) as u16,
+    }
+}
+
 /// The record to which the pointer leads. Touches its page. Strange names the length of what stands
 /// there where that is no record.
 pub fn at<P: Pages>(p: &mut P, roll: RollPtr) -> Result<UndoRecord, Fault>
@@ -114,10 +125,25 @@ pub fn at<P: Pages>(p: &mut P, roll: RollPtr) -> Result<UndoRecord, Fault>
     ensures uses { (a : Address) → led roll.0 ≡ Some a
         → Uses P.state P.stays (a.page ∷ []) 0 0 p.old p.new }
 {
-    let a = Addr {
-        page: PageNo((roll.0 / 65_536 % 4_294_967_296) as u32),
-        at: (roll.0 % 65_536) as u16,
-    };
+    record_there(p, leads_to(roll))
+}
+
+// The record that stands there.
+pub(crate) fn record_there<P: Pages>(p: &mut P, a: Addr) -> Result<UndoRecord, Fault>
+    requires place { IsRecordPlace (P.state p.old).count (address_of a) }
+    requires may { MayUse (a.page.0 ∷ []) 0 0 (P.state p.old) }
+    ensures value { (pages : Pages) (r : Record) (previous : Address)
+        → (P.state p.old).told ≡ Some pages → IsRecordAt pages (address_of a) r previous
+        → IfOk result (λ x. record_of x ≡ r) }
+    ensures doc { IfOk result (λ r. r.before.doc ≡ r.doc) }
+    ensures honest { IfErr result (IsHonest (IsNoRecord (P.state p.old).told (address_of a))) }
+    ensures never { (pages : Pages) (r : Record) (previous : Address)
+        → (P.state p.old).told ≡ Some pages → IsRecordAt pages (address_of a) r previous
+        → FailsPlainly result }
+    ensures cause { HasCause (P.state p.old).faults (P.state p.new).faults result }
+    ensures told { (P.state p.new).told ≡ (P.state p.old).told }
+    ensures uses { Uses P.state P.stays (a.page.0 ∷ []) 0 0 p.old p.new }
+{
     match read(p, a) {
         Ok(rec) => Ok(rec),
         Err(RecordError::Bad(_)) => no_record(p, a),

@@ -2,8 +2,8 @@ ghost use Rattle.std.specs.Prelude.{◌≡◌, ◌≤◌};
 ghost use Rattle.mem_disk.specs.MemPages.{page_state};
 
 use crate::{
-    append, at, begin_log, begin_purge, commit, drop_page, last, next_to_purge, oldest_committed,
-    pop_last, purge_begun, purged_one,
+    append, at, begin_log, begin_purge, commit, drop_page, is_purged, last, next_to_purge,
+    oldest_committed, pop_last, purge_begun, purged_one,
 };
 use engine_base::{DocId, Fault, PageNo, Pages, read_field, write_field};
 use lob_pages::{LobRef, LobVersion, TrxId, UndoNo};
@@ -72,9 +72,7 @@ fn first_record(p: &mut MemPages) -> Result<UndoRecord, Fault>
 
 #[test]
 #[tactic(auto, using(crate::proofs::TestLemmas::ample))]
-fn a_third_record_that_does_not_fit_takes_a_page_and_gives_it_back(
-    rt: HostRuntime,
-) -> Result<(), Fail> {
+fn a_third_record_that_does_not_fit_takes_a_page(rt: HostRuntime) -> Result<(), Fail> {
     let mut p = MemPages::new(rt.alloc(), 16)?;
     let mut space = Space::new();
     assert!(rt; p.count() == 16);
@@ -109,8 +107,41 @@ fn a_third_record_that_does_not_fit_takes_a_page_and_gives_it_back(
     assert!(rt; p.count() == 16);
     let found = first_record(&mut p).ok().ok_or("first")?;
     assert_eq!(rt; (found.number, found.doc), (UndoNo(0), DocId(9)));
+    Ok(())
+}
+
+// The log with three records, the third of which is on a page of its own.
+#[tactic(auto, using(crate::proofs::TestLemmas::ample))]
+fn three_records(p: &mut MemPages, space: &mut Space) -> Result<(), Fail>
+    requires { (page_state p.old).count ≡ 16 }
+{
+    begun(p, space)?;
+    for (number, end) in [107, 158, 16_376].into_iter().enumerate() {
+        if p.count() != 16 {
+            return Err(Fail::from("count"));
+        }
+        write_field(p, LOG, 50, 2, end).ok().ok_or("end")?;
+        if p.count() != 16 || space.reserved() == 0 {
+            return Err(Fail::from("reserved"));
+        }
+        remove(p, space, number as u32).ok().ok_or("append")?;
+    }
+    if p.count() != 16 {
+        return Err(Fail::from("count"));
+    }
+    write_field(p, LOG, 50, 2, 209).ok().ok_or("end")?;
+    Ok(())
+}
+
+#[test]
+#[tactic(auto, using(crate::proofs::TestLemmas::ample))]
+fn popped_records_give_their_page_back_and_then_the_log(rt: HostRuntime) -> Result<(), Fail> {
+    let mut p = MemPages::new(rt.alloc(), 16)?;
+    let mut space = Space::new();
+    assert!(rt; p.count() == 16);
+    three_records(&mut p, &mut space)?;
     for (left, (more, roll, free, active)) in [
-        (true, 0x1_3fc5, 14, 1),
+        (true, 0x1_009e, 14, 1),
         (true, 0x1_006b, 14, 1),
         (false, 0, 15, 0),
     ]
@@ -144,29 +175,6 @@ fn a_third_record_that_does_not_fit_takes_a_page_and_gives_it_back(
             );
         }
     }
-    Ok(())
-}
-
-// The log with three records, the third of which is on a page of its own.
-#[tactic(auto, using(crate::proofs::TestLemmas::ample))]
-fn three_records(p: &mut MemPages, space: &mut Space) -> Result<(), Fail>
-    requires { (page_state p.old).count ≡ 16 }
-{
-    begun(p, space)?;
-    for (number, end) in [107, 158, 16_376].into_iter().enumerate() {
-        if p.count() != 16 {
-            return Err(Fail::from("count"));
-        }
-        write_field(p, LOG, 50, 2, end).ok().ok_or("end")?;
-        if p.count() != 16 || space.reserved() == 0 {
-            return Err(Fail::from("reserved"));
-        }
-        remove(p, space, number as u32).ok().ok_or("append")?;
-    }
-    if p.count() != 16 {
-        return Err(Fail::from("count"));
-    }
-    write_field(p, LOG, 50, 2, 209).ok().ok_or("end")?;
     Ok(())
 }
 
@@ -230,6 +238,63 @@ fn a_log_is_committed_behind_those_before_it(rt: HostRuntime) -> Result<(), Fail
         assert_eq!(rt; read_field(&mut p, SYSTEM, 82, 4), Ok(active));
         assert!(rt; p.count() == 16);
         assert_eq!(rt; oldest_committed(&mut p), Ok(Some(PageNo(2))));
+    }
+    Ok(())
+}
+
+#[test]
+#[tactic(auto, using(crate::proofs::TestLemmas::ample))]
+fn a_record_is_purged_by_its_page_its_transaction_and_its_number(
+    rt: HostRuntime,
+) -> Result<(), Fail> {
+    let mut p = MemPages::new(rt.alloc(), 16)?;
+    let mut space = Space::new();
+    assert!(rt; p.count() == 16);
+    three_records(&mut p, &mut space)?;
+    // No pointer, another transaction's, a page that isn't used, one that is no log's, one past the
+    // store's, and the records of a log that is active.
+    for (roll, trx, purged) in [
+        (0, 7, true),
+        (0x1_006b, 8, true),
+        (0x5_006b, 7, true),
+        (0x0_006b, 7, true),
+        (0x10_006b, 7, true),
+        (0x2_0038, 7, false),
+    ] {
+        assert!(rt; p.count() == 16);
+        assert_eq!(rt;
+            is_purged(&mut p, RollPtr(roll), TrxId(trx)),
+            Ok(purged),
+            "{roll}"
+        );
+    }
+    assert!(rt; p.count() == 16);
+    assert_eq!(rt; commit(&mut p, LOG), Ok(()));
+    assert!(rt; p.count() == 16);
+    assert_eq!(rt; begin_purge(&mut p, LOG), Ok(()));
+    // The three records, and a place between the first two, as purge passes them.
+    for passed in [
+        [false, true, false, false],
+        [true, true, false, false],
+        [true, true, true, false],
+        [true, true, true, true],
+    ] {
+        for (roll, purged) in [0x1_006b, 0x1_0070, 0x1_009e, 0x2_0038]
+            .into_iter()
+            .zip(passed)
+        {
+            assert!(rt; p.count() == 16);
+            assert_eq!(rt;
+                is_purged(&mut p, RollPtr(roll), TrxId(7)),
+                Ok(purged),
+                "{roll}"
+            );
+        }
+        assert!(rt; p.count() == 16);
+        if next_to_purge(&mut p, LOG) != Ok(None) {
+            assert!(rt; p.count() == 16);
+            assert_eq!(rt; purged_one(&mut p, LOG), Ok(()));
+        }
     }
     Ok(())
 }

@@ -18,4 +18,6 @@ begun_stands pages page trx there type end state is last list = record {
   chain = tt;
   last = last;
   next = refl;
+  due = tt;
+  numbered = tt;
 }

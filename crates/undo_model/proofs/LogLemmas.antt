@@ -137,4 +137,6 @@ log_kept xs old new log same apart is =
       chain = chains_kept xs old new page log.parts same (bodies_apart xs log.parts apart) is.parts is.chain;
       last = last_is log.state _ _ (records_of log) (address_kept xs old new page 95 same (apart_part xs page 79 16_305 95 6 (lit≤ tt) (lit≤ tt) first.back)) is.last;
       next = next_is log.state _ _ log.next (address_kept xs old new page 101 same (apart_part xs page 79 16_305 101 6 (lit≤ tt) (lit≤ tt) first.back)) is.next;
+      due = is.due;
+      numbered = is.numbered;
     }

@@ -76,12 +76,6 @@ drop_first (p ∷ older) = older
 abbrev pub page_dropped : Log → Log
 page_dropped log = record log { parts = drop_first log.parts }
 
--- ---- undo numbers: from 0 on, in the order of writing
-
-abbrev pub AreNumbered : List Entry → Type 0
-AreNumbered [] = Unit {0}
-AreNumbered (e ∷ older) = (e.undo.number ≡ length older) × AreNumbered older
-
 -- ---- whether the record that a row names counts as purged
 
 -- the number of the record there

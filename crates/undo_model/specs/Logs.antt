@@ -92,6 +92,24 @@ abbrev pub AreChained : Pages → List Entry → Type 0
 AreChained pages [] = Unit {0}
 AreChained pages (e ∷ older) = IsRecordAt pages e.at e.undo (newest older) × AreChained pages older
 
+-- a transaction's records have the undo numbers from 0 on, in the order of writing
+abbrev pub AreNumbered : List Entry → Type 0
+AreNumbered [] = Unit {0}
+AreNumbered (e ∷ older) = (e.undo.number ≡ length older) × AreNumbered older
+
+-- one of the records stands there
+pub record HasPlace (a : Address) (records : List Entry) : Type 0 where
+  pub newer : List Entry
+  pub entry : Entry
+  pub older : List Entry
+  pub is : records ≡ newer ++ entry ∷ older
+  pub here : entry.at ≡ a
+
+-- the record to purge next is one of the log's
+abbrev pub IsDueIn : Option Address → List Entry → Type 0
+IsDueIn None records = Unit {0}
+IsDueIn (Some a) records = HasPlace a records
+
 pub record IsPart (pages : Pages) (start : ℕ) (p : Part) : Type 0 where
   pub there : p.page < length pages
   pub type : field pages p.page 24 2 ≡ undo_type
@@ -147,6 +165,8 @@ pub record IsLog (pages : Pages) (log : Log) : Type 0 where
   pub chain : AreChained pages (records_of log)
   pub last : LastIs log.state (last_field pages log.page) (records_of log)
   pub next : NextIs log.state (next_field pages log.page) log.next
+  pub due : IsDueIn log.next (records_of log)
+  pub numbered : AreNumbered (records_of log)
 
 -- what the parts rest on, without the nodes of the list of pages
 abbrev pub body_spans : List Part → List Span

@@ -1,6 +1,6 @@
 use Rattle.std.proofs.Common.{[], ◌∷◌, lit≤, arith}
 use Rattle.page_model.proofs.StepLemmas.{may_within, may_other, uses_at_most}
-use Rattle.undo_logs.proofs.UseLemmas.{place1, place2, place3, swap}
+use Rattle.undo_logs.proofs.UseLemmas.{place1, place2, place2_named, place3, place3_named, swap}
 use Rattle.undo_logs.proofs.TellLemmas.{place_here, place_new}
 use Rattle.undo_logs.proofs.appending.place.Goals as goal
 
@@ -25,6 +25,12 @@ returns-in_err-page-2-clause-uses g c = place3 g.P.Pages.stays_on c.args.log.0 c
 
 pub returns-clause-uses : goal.returns-clause-uses
 returns-clause-uses g c = place3 g.P.Pages.stays_on c.args.log.0 c.in_ok-page.page.0 _ _ _ _ c.newest_page.ensures.uses c.read_field.ensures.uses c.open_page.ensures.uses
+
+pub returns-then-end-size-clause-named : goal.returns-then-end-size-clause-named
+returns-then-end-size-clause-named g c = place2_named g.P.Pages.stays_on c.args.log.0 c.in_ok-page.page.0 _ _ _ c.newest_page.ensures.uses c.read_field.ensures.uses
+
+pub returns-clause-named : goal.returns-clause-named
+returns-clause-named g c = place3_named g.P.Pages.stays_on c.args.log.0 c.in_ok-page.page.0 _ c.in_ok-page-2.page.0 _ _ _ c.newest_page.ensures.uses c.read_field.ensures.uses c.in_ok-page-2.ensures.named
 
 pub returns-then-end-size-clause-places : goal.returns-then-end-size-clause-places
 returns-then-end-size-clause-places g c = λ pages l is same can covered.

@@ -7,7 +7,7 @@ use Rattle.undo_logs.proofs.DropPageLemmas.{newest_first, newest_alone, none_lef
 use Rattle.undo_logs.proofs.dropping.drop_page.Goals as goal
 
 pub newest_page-requires-clause-may : goal.newest_page-requires-clause-may
-newest_page-requires-clause-may g c = Rattle.page_model.proofs.StepLemmas.may_less (c.args.log.0 ∷ 0 ∷ []) (c.args.log.0 ∷ []) 3 0 77 0 (g.P.Pages.state c.args.p.now) c.requires.may (within_one c.args.log.0 (0 ∷ [])) (lit≤ tt) (lit≤ tt)
+newest_page-requires-clause-may g c = Rattle.page_model.proofs.StepLemmas.may_less (c.args.log.0 ∷ 0 ∷ []) (c.args.log.0 ∷ []) 2 0 77 0 (g.P.Pages.state c.args.p.now) c.requires.may (within_one c.args.log.0 (0 ∷ [])) (lit≤ tt) (lit≤ tt)
 
 pub returns-in_err-page-clause-never : goal.returns-in_err-page-clause-never
 returns-in_err-page-clause-never g c = λ pages l newest next older is same can parts.
@@ -23,7 +23,7 @@ returns-in_err-page-clause-uses g c = purge1 g.P.Pages.stays_on c.args.log.0 c.a
 pub end_purged-requires-clause-may : goal.end_purged-requires-clause-may
 end_purged-requires-clause-may g c =
     let log = c.args.log.0 in
-    may_within (log ∷ 0 ∷ []) (log ∷ 0 ∷ []) 3 77 0 0 2 77 c.args.p.now c.newest_page.new.p (λ n is. is) (lit≤ tt) (lit≤ tt) c.requires.may
+    may_within (log ∷ 0 ∷ []) (log ∷ 0 ∷ []) 2 77 0 0 1 77 c.args.p.now c.newest_page.new.p (λ n is. is) (lit≤ tt) (lit≤ tt) c.requires.may
     (begin (log ∷ 0 ∷ []) (log ∷ []) 0 0 _ _ (within_one log (0 ∷ [])) c.newest_page.ensures.uses)
 
 pub returns-in_err-end_purged-clause-never : goal.returns-in_err-end_purged-clause-never
@@ -56,7 +56,7 @@ pub drop_node-requires-clause-may : goal.drop_node-requires-clause-may
 drop_node-requires-clause-may g c =
     let log = c.args.log.0 in
     let page = c.in_ok-page.page.0 in
-    may_within (page ∷ log ∷ 0 ∷ []) (page ∷ log ∷ 0 ∷ []) 2 77 0 0 2 61 c.args.p.now c.newest_page.new.p (λ n is. is) (lit≤ tt) (lit≤ tt) (may_drop page log _ c.requires.may)
+    may_within (page ∷ log ∷ 0 ∷ []) (page ∷ log ∷ 0 ∷ []) 1 77 0 0 1 61 c.args.p.now c.newest_page.new.p (λ n is. is) (lit≤ tt) (lit≤ tt) (may_drop page log _ c.requires.may)
     (begin (page ∷ log ∷ 0 ∷ []) (log ∷ []) 0 0 _ _ (Rattle.page_model.proofs.StepLemmas.within_two page log (0 ∷ [])) c.newest_page.ensures.uses)
 
 pub returns-in_err-drop_node-clause-never : goal.returns-in_err-drop_node-clause-never

@@ -4,7 +4,7 @@ use Rattle.file_lists.specs.Near.{near_back}
 use Rattle.file_lists.proofs.LinkLemmas.{handed_on}
 use Rattle.file_lists.proofs.NearLemmas.{may_back, back_few}
 use Rattle.undo_model.specs.Logs.{pages_base}
-use Rattle.undo_logs.proofs.UseLemmas.{open1, open2, open3, open2_all, skip}
+use Rattle.undo_logs.proofs.UseLemmas.{open1, open2, open3, open3_named, open2_all, skip}
 use Rattle.undo_logs.proofs.OpenLemmas.{page_opened, page_opens}
 use Rattle.undo_logs.proofs.opening.open_page.Goals as goal
 
@@ -39,6 +39,13 @@ returns-clause-uses g c =
     let log = c.args.log.0 in
     let s = g.P.Pages.state c.start.new.p in
     open3 g.P.Pages.stays_on page log _ _ _ _ c.take.ensures.uses c.start.ensures.uses (uses_bound (near_back s (pages_base log)) (page ∷ log ∷ []) 1 68 _ _ (back_few s (pages_base log)) c.add_last.ensures.uses)
+
+pub returns-clause-named : goal.returns-clause-named
+returns-clause-named g c =
+    let page = c.in_ok-page.page.0 in
+    let log = c.args.log.0 in
+    let s = g.P.Pages.state c.start.new.p in
+    open3_named g.P.Pages.stays_on page log _ _ _ _ c.take.ensures.uses c.start.ensures.uses (uses_bound (near_back s (pages_base log)) (page ∷ log ∷ []) 1 68 _ _ (back_few s (pages_base log)) c.add_last.ensures.uses)
 
 pub returns-clause-opens : goal.returns-clause-opens
 returns-clause-opens g c = λ pages nodes is can covered.

@@ -11,19 +11,19 @@ pub cut_end-requires-clause-may : goal.cut_end-requires-clause-may
 cut_end-requires-clause-may g c =
     let page = c.args.at.page.0 in
     let log = c.args.log.0 in
-    may_less (page ∷ log ∷ 0 ∷ []) (page ∷ log ∷ []) 2 0 75 24 (g.P.Pages.state c.args.p.now) c.requires.may (λ n is. within_left (page ∷ log ∷ []) (0 ∷ []) n is) (lit≤ tt) (lit≤ tt)
+    may_less (page ∷ log ∷ 0 ∷ []) (page ∷ log ∷ []) 1 0 75 24 (g.P.Pages.state c.args.p.now) c.requires.may (λ n is. within_left (page ∷ log ∷ []) (0 ∷ []) n is) (lit≤ tt) (lit≤ tt)
 
 pub returns-clause-uses : goal.returns-clause-uses
 returns-clause-uses g c =
     let page = c.args.at.page.0 in
     let log = c.args.log.0 in
-    uses_more (page ∷ log ∷ []) (page ∷ log ∷ 0 ∷ []) 0 2 24 75 _ _ c.cut_end.ensures.uses (λ n is. within_left (page ∷ log ∷ []) (0 ∷ []) n is) (lit≤ tt) (lit≤ tt)
+    uses_more (page ∷ log ∷ []) (page ∷ log ∷ 0 ∷ []) 0 1 24 75 _ _ c.cut_end.ensures.uses (λ n is. within_left (page ∷ log ∷ []) (0 ∷ []) n is) (lit≤ tt) (lit≤ tt)
 
 pub returns-in_err-cut_end-clause-uses : goal.returns-in_err-cut_end-clause-uses
 returns-in_err-cut_end-clause-uses g c =
     let page = c.args.at.page.0 in
     let log = c.args.log.0 in
-    uses_more (page ∷ log ∷ []) (page ∷ log ∷ 0 ∷ []) 0 2 24 75 _ _ c.cut_end.ensures.uses (λ n is. within_left (page ∷ log ∷ []) (0 ∷ []) n is) (lit≤ tt) (lit≤ tt)
+    uses_more (page ∷ log ∷ []) (page ∷ log ∷ 0 ∷ []) 0 1 24 75 _ _ c.cut_end.ensures.uses (λ n is. within_left (page ∷ log ∷ []) (0 ∷ []) n is) (lit≤ tt) (lit≤ tt)
 
 pub returns-then-at-eq-OTHER_START-clause-pops : goal.returns-then-at-eq-OTHER_START-clause-pops
 returns-then-at-eq-OTHER_START-clause-pops g c = λ pages l e f older is same can records ea ep.

@@ -84,7 +84,7 @@ pub cut_newest-requires-clause-may : goal.cut_newest-requires-clause-may
 cut_newest-requires-clause-may g c =
     let page = c.in_ok-at.at.page.0 in
     let log = c.args.log.0 in
-    may_within (page ∷ log ∷ 0 ∷ []) (page ∷ log ∷ 0 ∷ []) 2 82 0 0 2 75 c.args.p.now c.record_before.new.p (λ n is. is) (lit≤ tt) (lit≤ tt) (may_pop page log _ c.requires.may)
+    may_within (page ∷ log ∷ 0 ∷ []) (page ∷ log ∷ 0 ∷ []) 2 82 0 0 1 75 c.args.p.now c.record_before.new.p (λ n is. is) (lit≤ tt) (lit≤ tt) (may_pop page log _ c.requires.may)
     (pop2 g.P.Pages.stays_on page log _ _ _ c.newest_place.ensures.uses c.record_before.ensures.uses)
 
 pub returns-in_err-cut_newest-clause-never : goal.returns-in_err-cut_newest-clause-never
