@@ -18,3 +18,5 @@ pub mod PushStoreLemmas
 pub mod CommitLemmas
 pub mod OldestLemmas
 pub mod LobMoveLemmas
+pub mod AllLogsLemmas
+pub mod PurgedLemmas

@@ -17,6 +17,6 @@ pub use parts::{
 pub use rows::row_log;
 pub use store::{
     lob_begins, lob_changes, lob_goes, log_begins, log_changes, log_commits, log_is_purged,
-    map_marks_owned, new_store_stands, next_trx_changes, rows_change,
+    logs_stand, map_marks_owned, new_store_stands, next_trx_changes, purged_shows, rows_change,
 };
 pub use uses::{record_appended, version_is_pushed, version_set};

@@ -6,9 +6,9 @@ ghost use Rattle.page_model.specs.Lists.{IsList, list_spans};
 ghost use Rattle.page_model.specs.Counts.{times};
 ghost use Rattle.page_space.specs.System.{MakesSystem};
 ghost use Rattle.page_space.specs.declared.layout.TheConstants.{NEXT_TRX_ID};
-ghost use Rattle.store_data.specs.Store.{active, Lob, Log, Store};
+ghost use Rattle.store_data.specs.Store.{active, Lob, Log, Row, Store};
 ghost use Rattle.lob_model.specs.Lobs.{IsLob, lob_pages};
-ghost use Rattle.undo_model.specs.Data.{Log as LogThere};
+ghost use Rattle.undo_model.specs.Data.{Log as LogThere, led};
 ghost use Rattle.undo_model.specs.Logs.{IsLog, log_node};
 ghost use Rattle.undo_model.specs.LogLists.{pages_in, active_base};
 ghost use Rattle.store_model.specs.Lobs.{lob_of};
@@ -21,6 +21,10 @@ ghost use Rattle.store_parts.specs.Keeps.{Keeps};
 ghost use Rattle.store_pages.specs.Changes.{LogAt, RowsAt};
 ghost use Rattle.store_parts.specs.Logs.{CommitsLog};
 ghost use Rattle.store_pages.specs.Oldest.{OldestAt};
+ghost use Rattle.store_pages.specs.Logs.{LogsAt, NamesRecord};
+ghost use Rattle.store_model.specs.Undo.{counts_as_purged};
+ghost use Rattle.store_model.specs.Well.{AreDistinct};
+ghost use Rattle.undo_model.specs.LogSteps.{is_purged};
 ghost use Rattle.store_model.specs.Events.{committed_by};
 
 /// A new system page is an empty store.
@@ -67,6 +71,23 @@ pub fn lob_goes()
 pub fn log_changes()
     ensures { (old : Pages) (store : Store) (trx : ℕ) (x : Log) → IsStore old store
         → log_in store.active trx ≡ Some x → LogAt old store trx x }
+{}
+
+/// The logs of a store stand on pages of their own, the active ones and the committed ones each in
+/// their list; an active log that the store has is one of the former.
+#[tactic(auto, using(crate::proofs::AllLogsLemmas::logs_at))]
+pub fn logs_stand()
+    ensures { (pages : Pages) (store : Store) → IsStore pages store → LogsAt pages store }
+{}
+
+/// Whether purge has passed the record that a row names: by the pages' fields as by the store, where
+/// no two logs have one transaction.
+pub fn purged_shows()
+    ensures { (pages : Pages) (store : Store) → (is : IsStore pages store)
+        → AreDistinct (store.active ++ store.committed)
+        → (row : Row) (n : ℕ) → row.roll ≡ led n → NamesRecord store row
+        → is_purged (is.stored.active ++ is.stored.committed) (led n) row.trx
+        ≡ counts_as_purged store row }
 {}
 
 /// An active log is begun, in front of the others.
