@@ -1,0 +1,15 @@
+pub mod SlotLemmas
+pub mod FindLemmas
+pub mod RoomLemmas
+pub mod SlotChangeLemmas
+pub mod RowsLemmas
+pub mod ChangeLemmas
+pub mod PutLemmas
+pub mod OpenLemmas
+pub mod UseLemmas
+pub mod ReplaceLemmas
+pub mod ForgetLemmas
+pub mod RemoveLemmas
+pub mod DropLemmas
+pub mod LoadLemmas
+pub mod TestLemmas
