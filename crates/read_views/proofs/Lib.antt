@@ -1,0 +1,5 @@
+pub mod LimitLemmas
+pub mod StoreLemmas
+pub mod PieceLemmas
+pub mod FlightLemmas
+pub mod CopyLemmas

@@ -1,0 +1,4 @@
+pub mod Views
+pub mod OfStore
+pub mod Flights
+pub mod Steps
