@@ -1,5 +1,5 @@
 -- The pages and the room of the calls that take an index page.
-use Rattle.std.proofs.Common.{ℕ, ◌≤◌, List, [], ◌∷◌, lit≤}
+use Rattle.std.proofs.Common.{ℕ, List, [], ◌∷◌, lit≤}
 use Rattle.page_model.specs.Steps.{PageState, IsWithin, MayUse, Uses}
 use Rattle.page_model.proofs.StepLemmas.{may_within, may_other, uses_more, uses_within, uses_other, uses_at_most, within_one, within_two, within_right, within_both}
 

@@ -37,12 +37,42 @@ pub fn head<P: Pages>(p: &mut P, page: PageNo, k: u32) -> Result<Option<Addr>, F
     ensures told { (P.state p.new).told ≡ (P.state p.old).told }
     ensures uses { Uses P.state P.stays (page.0 ∷ []) 4 0 p.old p.new }
 {
-    let mut found = head_at(p, page, HEADS + FIRST, 0, page)?;
-    'heads: for i in 0..k {
-        let Some(node) = found else {
+    let Some(node) = head_at(p, page, HEADS + FIRST, 0, page)? else {
+        return Ok(None);
+    };
+    head_after(p, node, 0, k)
+}
+
+/// The entry of the piece n behind that of this head, which itself follows k others, and None past
+/// the last piece. Whoever goes through some pieces of a LOB keeps the last head's address and goes
+/// on from there: each piece between costs one read of 6 bytes. Touches at most four pages besides
+/// the head's.
+pub fn head_after<P: Pages>(p: &mut P, node: Addr, k: u32, n: u32) -> Result<Option<Addr>, Fault>
+    requires node { FitsPage (P.state p.old).count (address_of node) }
+    requires position { k + n < 2 ^ 32 }
+    requires may { MayUse (node.page.0 ∷ []) 4 0 (P.state p.old) }
+    ensures value { (pages : Pages) (lob : Lob) → (P.state p.old).told ≡ Some pages
+        → IsLob pages lob → Some (address_of node) ≡ nth k (map head_place lob.pieces)
+        → IfOk result (λ link. link_of link ≡ nth (k + n) (map head_place lob.pieces)) }
+    ensures place { IfOk result
+        (λ link. IfSome link (λ a. FitsPage (P.state p.old).count (address_of a))) }
+
+    // Strange names the address in a head's node, as it stood at the call.
+    ensures honest { IfErr result
+        (IsHonest (IsOddOnWalk (P.state p.old).told (P.state p.old).count)) }
+    ensures never { (pages : Pages) (lob : Lob) → (P.state p.old).told ≡ Some pages
+        → IsLob pages lob → Some (address_of node) ≡ nth k (map head_place lob.pieces)
+        → FailsPlainly result }
+    ensures cause { HasCause (P.state p.old).faults (P.state p.new).faults result }
+    ensures told { (P.state p.new).told ≡ (P.state p.old).told }
+    ensures uses { Uses P.state P.stays (node.page.0 ∷ []) 4 0 p.old p.new }
+{
+    let mut found = Some(node);
+    'heads: for i in 0..n {
+        let Some(a) = found else {
             return Ok(None);
         };
-        found = head_at(p, node.page, node.at + NEXT, i + 1, node.page)?;
+        found = head_at(p, a.page, a.at + NEXT, k + i + 1, a.page)?;
     }
     Ok(found)
 }

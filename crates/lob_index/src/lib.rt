@@ -10,7 +10,7 @@ mod nodes;
 mod taking;
 
 pub use data::{data_page, give_data, put_number, write_data};
-pub use heads::{head, next_head};
+pub use heads::{head, head_after, next_head};
 pub use nodes::{give_node, take_free};
 pub use taking::take_node;
 

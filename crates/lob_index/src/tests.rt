@@ -2,7 +2,7 @@ ghost use Rattle.std.specs.Prelude.{◌+◌, ◌<◌, ◌≤◌};
 ghost use Rattle.engine_base.specs.Addresses.{address_of};
 ghost use Rattle.lob_pages.specs.Entries.{FitsPage};
 
-use crate::{give_node, head, next_head, take_free, take_node};
+use crate::{give_node, head, head_after, next_head, take_free, take_node};
 use engine_base::{Addr, Fault, NULL_PAGE, PageNo, Pages, read_field, write_address, write_field};
 use file_lists::make_base;
 use mem_disk::MemPages;
@@ -65,6 +65,20 @@ fn heads_are_found_by_their_position(rt: HostRuntime) -> Result<(), Fail> {
         let node = entry(k);
         assert!(rt; p.count() == 4);
         assert_eq!(rt; next_head(&mut p, node, u32::from(k)), Ok(found), "{k}");
+    }
+    for (k, n, found) in [
+        (0, 0, Some(entry(0))),
+        (3, 8, Some(entry(11))),
+        (9, 1, Some(entry(10))),
+        (9, 3, None),
+    ] {
+        let node = entry(k);
+        assert!(rt; p.count() == 4);
+        assert_eq!(rt;
+            head_after(&mut p, node, u32::from(k), n),
+            Ok(found),
+            "{k} {n}"
+        );
     }
     assert!(rt; p.count() == 4);
     write_address(&mut p, page, 102, entry(10))

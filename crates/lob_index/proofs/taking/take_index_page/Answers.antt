@@ -1,5 +1,5 @@
 use Rattle.std.proofs.Common.{◌≡◌, ℕ, sym, subst, ◌∙◌, lit≤}
-use Rattle.page_model.specs.Pages.{Pages, field}
+use Rattle.page_model.specs.Pages.{field}
 use Rattle.page_model.specs.Spans.{SetsField}
 use Rattle.page_model.proofs.StepLemmas.{uses_at_most, told_step}
 use Rattle.page_space.proofs.MapLemmas.{at_told}

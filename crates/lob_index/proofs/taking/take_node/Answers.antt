@@ -1,5 +1,4 @@
 use Rattle.std.proofs.Common.{◌≡◌, subst, [], ◌∷◌, Option, IfNone, IfSome}
-use Rattle.page_model.specs.Pages.{Pages}
 use Rattle.page_model.specs.Steps.{Uses}
 use Rattle.engine_base.specs.declared.addr.Addr.{Addr}
 use Rattle.lob_index.proofs.AnswerLemmas.{if_ok}
