@@ -1,21 +1,21 @@
 -- All logs of a store stand on pages of their own, in their two lists.
-use Rattle.std.proofs.Common.{◌≡◌, ◌≢◌, ◌⊎◌, inl, inr, ℕ, ◌+◌, ◌<◌, ◌≤◌, ◌==◌, ◌^◌, List, [], ◌∷◌, ◌++◌, length, Some, refl, sym, ap, ◌∙◌, lit≤, arith}
+use Rattle.std.proofs.Common.{◌≡◌, ◌≢◌, ◌⊎◌, inl, inr, ℕ, ◌+◌, ◌<◌, ◌≤◌, List, [], ◌∷◌, ◌++◌, length, refl, sym, ap, ◌∙◌, arith}
 use Rattle.std.proofs.lemmas.List.{length-append}
 use Rattle.page_model.specs.Pages.{Pages}
-use Rattle.page_model.specs.Counts.{one_if, times}
-use Rattle.page_model.proofs.CountLemmas.{times_here, times-append, few_pages}
-use Rattle.store_data.specs.Store.{Log, Store}
+use Rattle.page_model.specs.Counts.{times}
+use Rattle.page_model.proofs.CountLemmas.{times_here, few_pages}
+use Rattle.store_data.specs.Store.{Store}
 use Rattle.undo_model.specs.Data.{Part, Log as LogThere}
 use Rattle.undo_model.specs.Logs.{IsLog}
-use Rattle.undo_model.specs.LogLists.{Logs, IsLogs, AreLogs, pages_in, all_pages, IsNoneOf, AreDifferent}
+use Rattle.undo_model.specs.LogLists.{AreLogs, pages_in, all_pages, IsNoneOf, AreDifferent}
 use Rattle.store_model.specs.Steps.{log_of as log_in}
-use Rattle.store_parts.specs.Stored.{held, part_pages}
-use Rattle.store_parts.specs.Standing.{mark, IsOut, AreThere, IsStoreBut}
-use Rattle.store_parts.specs.Shows.{logs_of, AreIn, IsStore}
+use Rattle.store_parts.specs.Stored.{part_pages}
+use Rattle.store_parts.specs.Standing.{IsOut, AreThere}
+use Rattle.store_parts.specs.Shows.{AreIn, IsStore}
 use Rattle.store_parts.proofs.CountLemmas.{mark_small, times-joined}
 use Rattle.store_parts.proofs.MoveLemmas.{marked}
 use Rattle.store_parts.proofs.FrameLemmas.{times-parts}
-use Rattle.store_pages.specs.Logs.{IsAmong, LogsAt}
+use Rattle.store_pages.specs.Logs.{LogsAt}
 use Rattle.store_pages.proofs.LogStoreLemmas.{found_log}
 
 -- ---- each stands

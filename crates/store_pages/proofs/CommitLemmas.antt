@@ -18,6 +18,7 @@ use Rattle.store_parts.specs.Keeps.{first_nodes}
 use Rattle.store_parts.specs.Logs.{CommitsLog}
 use Rattle.page_model.proofs.CountLemmas.{times_here}
 use Rattle.store_parts.proofs.CountLemmas.{first_on}
+use Rattle.store_pages.specs.Stands.{RowsStand}
 use Rattle.store_pages.proofs.NodeLemmas.{off_none, there_cut}
 use Rattle.store_parts.proofs.MoveLemmas.{not_zero}
 use Rattle.store_pages.proofs.PartLemmas.{log_out, committed_in, times-logs, nodes_same}
@@ -59,10 +60,11 @@ committed_end n (v ∷ vs) m state number all = (all.0, all.1, waiting_end (suc 
 
 -- ---- in a store
 
--- where its active log is committed in the pages, a transaction is committed in the store
-pub log_committed : (old new : Pages) (store : Store) (trx : ℕ) (x : Log) → IsStore old store → log_in_list store.active trx ≡ Some x
-    → ((l : LogThere) → IsLog old l → log_of l ≡ x → (m : LogThere) × CommitsLog l m store.commits old new) → IsStore new (committed_by trx store)
-log_committed old new store trx x is there commits =
+-- where its active log is committed in the pages, a transaction is committed in the store, and the
+-- row pages stand on
+pub log_committed_rows : (old new : Pages) (store : Store) (trx : ℕ) (x : Log) → IsStore old store → log_in_list store.active trx ≡ Some x
+    → ((l : LogThere) → IsLog old l → log_of l ≡ x → (m : LogThere) × CommitsLog l m store.commits old new) → IsStore new (committed_by trx store) × RowsStand old new
+log_committed_rows old new store trx x is there commits =
     let s = is.stored in
     let at = found_log s.active trx x (ap (λ ls. log_in_list ls trx) (sym is.shows.active) ∙ there) in
     let l = at.log in
@@ -103,29 +105,31 @@ log_committed old new store trx x is there commits =
     let st4 : IsStoreBut own new (with_counters s.next_trx (suc store.commits) s.purged s3) =
     commits_set own c.linked new s3 st3 (suc store.commits) sets (off_none (span 0 46 8 ∷ []) (vs ++ bs) left_in)
     (off_firsts (m.page ∷ []) (span 0 46 8 ∷ []) ends off (outs_end (m.page ∷ []) s.committed (out m) (times_here m.page []) is.whole.committed_in)) in
-    let counted = is.shows.commits ∙ is.whole.count in
-    record {
-      stored = with_counters s.next_trx (suc store.commits) s.purged (with_committed (s.committed ++ m ∷ []) s2);
-      standing = committed_in own new (with_counters s.next_trx (suc store.commits) s.purged s2) s.committed (out m) [] [] m refl refl st4 c.stands (λ n. omega arith);
-      whole = record {
-        active = active_cut vs l bs (subst AreActive at.cut is.whole.active);
-        committed = committed_end (suc s.purged) s.committed m c.state (let n = c.number in omega (arith, n, counted)) is.whole.committed;
-        count = (let a = length-append s.committed (m ∷ []) in omega (arith, counted, a));
-        active_in = left_in;
-        committed_in = in_end s.committed m (some_parts new m.page m.parts c.stands.parts) is.whole.committed_in;
-      };
-      shows = subst (λ o. Shows (with_counters s.next_trx (suc store.commits) s.purged (with_committed (s.committed ++ m ∷ []) s2)) (moved trx o store)) (sym there) (record {
-        next_trx = is.shows.next_trx;
-        commits = refl;
-        purged = is.shows.purged;
-        rising = is.shows.rising;
-        rows = is.shows.rows;
-        row_pages = is.shows.row_pages;
-        active = ap (λ ls. Rattle.store_model.specs.Steps.without_log trx ls) is.shows.active ∙ at.gone;
-        committed = ap₂ (λ ls (y : Log). ls ++ y ∷ []) is.shows.committed (ap (λ (y : Log). let z : Log = record y { state = committed; number = suc store.commits } in z) (sym at.shows) ∙ sym c.shows) ∙ sym (logs_end s.committed m);
-        lobs = is.shows.lobs;
-      });
-    }
+    let counted = is.shows.commits ∙ is.whole.count in (
+      record {
+        stored = with_counters s.next_trx (suc store.commits) s.purged (with_committed (s.committed ++ m ∷ []) s2);
+        standing = committed_in own new (with_counters s.next_trx (suc store.commits) s.purged s2) s.committed (out m) [] [] m refl refl st4 c.stands (λ n. omega arith);
+        whole = record {
+          active = active_cut vs l bs (subst AreActive at.cut is.whole.active);
+          committed = committed_end (suc s.purged) s.committed m c.state (let n = c.number in omega (arith, n, counted)) is.whole.committed;
+          count = (let a = length-append s.committed (m ∷ []) in omega (arith, counted, a));
+          active_in = left_in;
+          committed_in = in_end s.committed m (some_parts new m.page m.parts c.stands.parts) is.whole.committed_in;
+        };
+        shows = subst (λ o. Shows (with_counters s.next_trx (suc store.commits) s.purged (with_committed (s.committed ++ m ∷ []) s2)) (moved trx o store)) (sym there) (record {
+          next_trx = is.shows.next_trx;
+          commits = refl;
+          purged = is.shows.purged;
+          rising = is.shows.rising;
+          rows = is.shows.rows;
+          row_pages = is.shows.row_pages;
+          active = ap (λ ls. Rattle.store_model.specs.Steps.without_log trx ls) is.shows.active ∙ at.gone;
+          committed = ap₂ (λ ls (y : Log). ls ++ y ∷ []) is.shows.committed (ap (λ (y : Log). let z : Log = record y { state = committed; number = suc store.commits } in z) (sym at.shows) ∙ sym c.shows) ∙ sym (logs_end s.committed m);
+          lobs = is.shows.lobs;
+        });
+      },
+      record { rows = s.rows; before = is.standing.rows; behind = st4.rows },
+    )
   where
     same_end : (n : ℕ) (ls : List LogThere) → times n (all_pages (ls ++ [])) ≡ times n (all_pages ls)
     same_end n ls = ap (λ ks. times n (all_pages ks)) (append_none ls)
@@ -139,3 +143,7 @@ log_committed old new store trx x is there commits =
       where
         no : 1 ≤ 0 → ⊥
         no h = absurd (omega arith)
+
+pub log_committed : (old new : Pages) (store : Store) (trx : ℕ) (x : Log) → IsStore old store → log_in_list store.active trx ≡ Some x
+    → ((l : LogThere) → IsLog old l → log_of l ≡ x → (m : LogThere) × CommitsLog l m store.commits old new) → IsStore new (committed_by trx store)
+log_committed old new store trx x is there commits = (log_committed_rows old new store trx x is there commits).0

@@ -1,5 +1,5 @@
 -- A counter of page 0 set.
-use Rattle.std.proofs.Common.{◌≡◌, ◌⊎◌, inl, inr, ℕ, ◌+◌, ◌%◌, ◌≤◌, List, [], ◌∷◌, map, ap, ◌∙◌, arith, lit≤}
+use Rattle.std.proofs.Common.{◌≡◌, ◌⊎◌, inl, inr, ℕ, ◌+◌, ◌%◌, ◌≤◌, List, [], ◌∷◌, ap, ◌∙◌, arith, lit≤}
 use Rattle.std.specs.Int.{bit_at}
 use Rattle.page_model.specs.Pages.{Pages, field}
 use Rattle.page_model.specs.Spans.{span, IsApartFromAll, SameOutside, SetsField}

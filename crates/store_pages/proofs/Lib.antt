@@ -10,13 +10,17 @@ pub mod AppendLemmas
 pub mod StoreMoveLemmas
 pub mod StartLemmas
 pub mod OwnedLemmas
+pub mod LaidLemmas
+pub mod RunLobLemmas
 pub mod ListedLemmas
 pub mod MarkLemmas
 pub mod RoomLemmas
 pub mod UseLemmas
+pub mod RunStoreLemmas
 pub mod PushStoreLemmas
 pub mod CommitLemmas
 pub mod OldestLemmas
 pub mod LobMoveLemmas
 pub mod AllLogsLemmas
 pub mod PurgedLemmas
+pub mod StandLemmas

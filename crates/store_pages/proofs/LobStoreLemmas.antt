@@ -1,5 +1,5 @@
 -- One LOB of a store changed, begun or gone.
-use Rattle.std.proofs.Common.{◌≡◌, inl, inr, ℕ, ◌+◌, Bool, if◌then◌else◌, List, [], ◌∷◌, ◌++◌, Some, refl, sym, ap, subst, ◌∙◌, arith}
+use Rattle.std.proofs.Common.{◌≡◌, inl, inr, ℕ, Bool, if◌then◌else◌, List, [], ◌∷◌, ◌++◌, Some, refl, sym, ap, subst, ◌∙◌, arith}
 use Rattle.std.proofs.lemmas.Bool.Decides.{eqb_tells}
 use Rattle.page_model.specs.Pages.{Pages}
 use Rattle.page_model.specs.Counts.{times}
@@ -15,6 +15,7 @@ use Rattle.store_parts.specs.Standing.{IsStoreBut, AreOutIn}
 use Rattle.store_parts.specs.Shows.{Shows, AreIn, IsWhole, IsStore}
 use Rattle.store_parts.specs.Keeps.{Keeps}
 use Rattle.store_pages.proofs.PartLemmas.{lob_out, lob_in}
+use Rattle.store_pages.specs.Stands.{RowsStand}
 use Rattle.store_parts.proofs.KeepLemmas.{recounted}
 
 -- ---- the LOB with a first page
@@ -102,6 +103,19 @@ module _ (old new : Pages) (store : Store) (is : IsStore old store) where
         whole = whole_lobs is.stored _ is.whole;
         shows = shows_lobs is.stored store _ (on_lob page f) is.shows (at.changed f);
       }
+
+  -- the row pages stand on where a LOB changes or goes, and where one begins
+  pub lob_rows : (page : ℕ) (l : Lob) (own : List ℕ) → lob_of store.lobs page ≡ Some l → Keeps [] (lob_pages l) own old new → RowsStand old new
+  lob_rows page l own there keeps =
+      let at = found store.lobs page l there in
+      let rest = (taken page l at).1 in
+      let after = keeps (with_lobs (at.before ++ at.after) is.stored) (none_out is.stored.active is.whole.active_in) (none_out is.stored.committed is.whole.committed_in) rest in
+      record { rows = is.stored.rows; before = is.standing.rows; behind = after.rows }
+
+  pub begun_rows : (own : List ℕ) → Keeps [] [] own old new → RowsStand old new
+  begun_rows own keeps =
+      let after = keeps is.stored (none_out is.stored.active is.whole.active_in) (none_out is.stored.committed is.whole.committed_in) is.standing in
+      record { rows = is.stored.rows; before = is.standing.rows; behind = after.rows }
 
   pub lob_gone : (page : ℕ) (l : Lob) → lob_of store.lobs page ≡ Some l → Keeps [] (lob_pages l) [] old new → IsStore new (on_lobs (without_lob page) store)
   lob_gone page l there keeps =

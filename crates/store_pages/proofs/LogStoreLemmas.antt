@@ -14,7 +14,9 @@ use Rattle.store_model.specs.Steps.{on_log, without_log, log_of as log_in_list}
 use Rattle.store_parts.specs.Stored.{part_pages, with_active, out}
 use Rattle.store_parts.specs.Standing.{IsStoreBut, AreOutIn}
 use Rattle.store_parts.specs.Shows.{log_of, logs_of, AreIn, IsStore}
+use Rattle.store_parts.specs.Logs.{ChangesLog, GivesLog}
 use Rattle.store_pages.specs.Changes.{LogAt}
+use Rattle.store_pages.specs.Stands.{RowsStand}
 use Rattle.page_model.proofs.CountLemmas.{times_here}
 use Rattle.store_parts.proofs.CountLemmas.{first_on}
 use Rattle.store_parts.proofs.FrameLemmas.{times-parts}
@@ -128,9 +130,15 @@ in_behind (v ∷ vs) l bs all = in_behind vs l bs all.1
 
 -- ---- in a store
 
--- a transaction's active log stands in pages, and the store changes as it changes there
-pub log_at : (old : Pages) (store : Store) (trx : ℕ) (x : Log) → IsStore old store → log_in_list store.active trx ≡ Some x → LogAt old store trx x
-log_at old store trx x is there =
+-- the row pages stand on where a log changes, and where it goes
+pub record LogRows (old : Pages) (l : LogThere) : Type 0 where
+  pub changed : (new : Pages) (f : Log → Log) → ChangesLog f l old new → RowsStand old new
+  pub gone : (new : Pages) → GivesLog l old new → RowsStand old new
+
+-- a transaction's active log stands in pages, and the store changes as it changes there; the row
+-- pages stand on
+pub log_at_rows : (old : Pages) (store : Store) (trx : ℕ) (x : Log) → IsStore old store → log_in_list store.active trx ≡ Some x → (a : LogAt old store trx x) × LogRows old a.log
+log_at_rows old store trx x is there =
     let s = is.stored in
     let at = found_log s.active trx x (ap (λ ls. log_in_list ls trx) (sym is.shows.active) ∙ there) in
     let l = at.log in
@@ -140,70 +148,83 @@ log_at old store trx x is there =
     let all_in : AreIn (at.before ++ l ∷ at.after) = subst AreIn at.cut is.whole.active_in in
     let parts = log_out [] old s at.before l at.after (in_at at.before l at.after all_in) (subst (λ ls. IsStoreBut [] old (with_active ls s)) at.cut is.standing) in
     let rest : IsStoreBut (pages_in l.parts) old (with_active (at.before ++ out l ∷ at.after) s) = recounted _ (pages_in l.parts) old _ (plus_none (pages_in l.parts)) parts.1 in
-    record {
-      log = l;
-      stands = parts.0;
-      room = can_append old s l is.standing parts.0 is_active held_in;
-      shows = at.shows;
-      is_active = is_active;
-      changed = λ new f c.
-          let m = c.after in
-          let after = c.keeps (with_active (at.before ++ out l ∷ at.after) s) (out_at at.before l at.after all_in) (all_out (l.page ∷ []) s.committed is.whole.committed_in) rest in
-          record {
-            stored = with_active (at.before ++ m ∷ at.after) s;
-            standing = put_log (pages_in m.parts) new s at.before (out l) at.after [] m refl c.same_page after c.stands (λ n. omega arith);
-            whole = record {
-              active = active_set at.before l m at.after c.is_active (subst AreActive at.cut is.whole.active);
-              committed = is.whole.committed;
-              count = is.whole.count;
-              active_in = in_set at.before l m at.after (some_parts new m.page m.parts c.stands.parts) all_in;
-              committed_in = is.whole.committed_in;
+    let after : (new : Pages) (f : Log → Log) (c : ChangesLog f l old new) → IsStoreBut (pages_in c.after.parts) new (with_active (at.before ++ out l ∷ at.after) s) =
+    λ new f c. c.keeps (with_active (at.before ++ out l ∷ at.after) s) (out_at at.before l at.after all_in) (all_out (l.page ∷ []) s.committed is.whole.committed_in) rest in
+    let vs = at.before in
+    let bs = at.after in
+    let own = pages_in l.parts in
+    let left_in = in_cut vs l bs all_in in
+    let emptied : (new : Pages) → GivesLog l old new → IsStoreBut [] new (with_active (vs ++ bs) s) =
+    λ new c. (
+    let nodes = nodes_same vs (out l) l bs refl in
+    let un = c.unlinks vs bs (subst (IsList old active_base) nodes rest.active_list) in
+    let here : 1 ≤ times l.page own = first_on old l.page l.parts parts.0.parts in
+    let count : (n : ℕ) → times n (all_pages (vs ++ bs)) + times n own ≡ times n (all_pages (vs ++ out l ∷ bs)) + times n own = λ n. (let a = times-logs n vs (out l) bs in omega (arith, a)) in
+    let st1 : IsStoreBut own c.unlinked (with_active (vs ++ bs) s) =
+    Active.relisted own own (vs ++ out l ∷ bs) old c.unlinked (with_active (vs ++ out l ∷ bs) s) rest rest.active (λ n. refl) (outs_at own vs (out l) bs here (in_before vs l bs all_in) (in_behind vs l bs all_in))
+    (subst (λ ns. SameOutside (list_spans active_base ns) old c.unlinked) (sym nodes) un.1)
+    own (vs ++ bs) (off_none (list_spans active_base (log_nodes (vs ++ out l ∷ bs))) s.committed is.whole.committed_in) un.0 (there_cut c.unlinked vs (out l) bs) count in
+    c.gives (with_active (vs ++ bs) s) (none_out (vs ++ bs) left_in) (none_out s.committed is.whole.committed_in) st1
+    ) in (
+      record {
+        log = l;
+        stands = parts.0;
+        room = can_append old s l is.standing parts.0 is_active held_in;
+        shows = at.shows;
+        is_active = is_active;
+        changed = λ new f c.
+            let m = c.after in
+            record {
+              stored = with_active (at.before ++ m ∷ at.after) s;
+              standing = put_log (pages_in m.parts) new s at.before (out l) at.after [] m refl c.same_page (after new f c) c.stands (λ n. omega arith);
+              whole = record {
+                active = active_set at.before l m at.after c.is_active (subst AreActive at.cut is.whole.active);
+                committed = is.whole.committed;
+                count = is.whole.count;
+                active_in = in_set at.before l m at.after (some_parts new m.page m.parts c.stands.parts) all_in;
+                committed_in = is.whole.committed_in;
+              };
+              shows = record {
+                next_trx = is.shows.next_trx;
+                commits = is.shows.commits;
+                purged = is.shows.purged;
+                rising = is.shows.rising;
+                rows = is.shows.rows;
+                row_pages = is.shows.row_pages;
+                active = ap (λ ls. on_log trx f ls) is.shows.active ∙ at.changed f m c.shows;
+                committed = is.shows.committed;
+                lobs = is.shows.lobs;
+              };
             };
-            shows = record {
-              next_trx = is.shows.next_trx;
-              commits = is.shows.commits;
-              purged = is.shows.purged;
-              rising = is.shows.rising;
-              rows = is.shows.rows;
-              row_pages = is.shows.row_pages;
-              active = ap (λ ls. on_log trx f ls) is.shows.active ∙ at.changed f m c.shows;
-              committed = is.shows.committed;
-              lobs = is.shows.lobs;
+        gone = λ new c.
+            record {
+              stored = with_active (vs ++ bs) s;
+              standing = emptied new c;
+              whole = record {
+                active = active_cut vs l bs (subst AreActive at.cut is.whole.active);
+                committed = is.whole.committed;
+                count = is.whole.count;
+                active_in = left_in;
+                committed_in = is.whole.committed_in;
+              };
+              shows = record {
+                next_trx = is.shows.next_trx;
+                commits = is.shows.commits;
+                purged = is.shows.purged;
+                rising = is.shows.rising;
+                rows = is.shows.rows;
+                row_pages = is.shows.row_pages;
+                active = ap (λ ls. without_log trx ls) is.shows.active ∙ at.gone;
+                committed = is.shows.committed;
+                lobs = is.shows.lobs;
+              };
             };
-          };
-      gone = λ new c.
-          let vs = at.before in
-          let bs = at.after in
-          let own = pages_in l.parts in
-          let left_in = in_cut vs l bs all_in in
-          let nodes = nodes_same vs (out l) l bs refl in
-          let un = c.unlinks vs bs (subst (IsList old active_base) nodes rest.active_list) in
-          let here : 1 ≤ times l.page own = first_on old l.page l.parts parts.0.parts in
-          let count : (n : ℕ) → times n (all_pages (vs ++ bs)) + times n own ≡ times n (all_pages (vs ++ out l ∷ bs)) + times n own = λ n. (let a = times-logs n vs (out l) bs in omega (arith, a)) in
-          let st1 : IsStoreBut own c.unlinked (with_active (vs ++ bs) s) =
-          Active.relisted own own (vs ++ out l ∷ bs) old c.unlinked (with_active (vs ++ out l ∷ bs) s) rest rest.active (λ n. refl) (outs_at own vs (out l) bs here (in_before vs l bs all_in) (in_behind vs l bs all_in))
-          (subst (λ ns. SameOutside (list_spans active_base ns) old c.unlinked) (sym nodes) un.1)
-          own (vs ++ bs) (off_none (list_spans active_base (log_nodes (vs ++ out l ∷ bs))) s.committed is.whole.committed_in) un.0 (there_cut c.unlinked vs (out l) bs) count in
-          record {
-            stored = with_active (vs ++ bs) s;
-            standing = c.gives (with_active (vs ++ bs) s) (none_out (vs ++ bs) left_in) (none_out s.committed is.whole.committed_in) st1;
-            whole = record {
-              active = active_cut vs l bs (subst AreActive at.cut is.whole.active);
-              committed = is.whole.committed;
-              count = is.whole.count;
-              active_in = left_in;
-              committed_in = is.whole.committed_in;
-            };
-            shows = record {
-              next_trx = is.shows.next_trx;
-              commits = is.shows.commits;
-              purged = is.shows.purged;
-              rising = is.shows.rising;
-              rows = is.shows.rows;
-              row_pages = is.shows.row_pages;
-              active = ap (λ ls. without_log trx ls) is.shows.active ∙ at.gone;
-              committed = is.shows.committed;
-              lobs = is.shows.lobs;
-            };
-          };
-    }
+      },
+      record {
+        changed = λ new f c. record { rows = s.rows; before = is.standing.rows; behind = (after new f c).rows };
+        gone = λ new c. record { rows = s.rows; before = is.standing.rows; behind = (emptied new c).rows };
+      },
+    )
+
+pub log_at : (old : Pages) (store : Store) (trx : ℕ) (x : Log) → IsStore old store → log_in_list store.active trx ≡ Some x → LogAt old store trx x
+log_at old store trx x is there = (log_at_rows old store trx x is there).0

@@ -1,5 +1,5 @@
 -- Parts taken out of a store, and put in.
-use Rattle.std.proofs.Common.{◌≡◌, ◌≢◌, ◌⊎◌, inl, inr, ℕ, ◌+◌, List, [], ◌∷◌, ◌++◌, map, refl, sym, ap, subst, arith}
+use Rattle.std.proofs.Common.{◌≡◌, ◌≢◌, ◌⊎◌, inl, inr, ℕ, ◌+◌, List, [], ◌∷◌, ◌++◌, refl, sym, ap, subst, arith}
 use Rattle.page_model.specs.Pages.{Pages, Address}
 use Rattle.page_model.specs.Lists.{IsList}
 use Rattle.page_model.specs.Counts.{times}

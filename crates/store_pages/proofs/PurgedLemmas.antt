@@ -1,21 +1,19 @@
 -- Whether purge has passed the record that a row names: what the pages tell is what the store says.
-use Rattle.std.proofs.Common.{◌≡◌, ◌≢◌, ◌⊎◌, inl, inr, ℕ, zero, suc, ◌+◌, ◌<◌, ◌≤◌, ◌==◌, ◌&&◌, ◌||◌, not, nat_lt, Bool, true, false, cond, if◌then◌else◌, List, [], ◌∷◌, ◌++◌, length, Option, Some, None, is_none, refl, sym, ap, ap₂, ◌∙◌, subst, arith}
+use Rattle.std.proofs.Common.{◌≡◌, ◌≢◌, ◌⊎◌, inl, inr, ℕ, suc, ◌<◌, ◌≤◌, ◌==◌, ◌&&◌, ◌||◌, not, Bool, true, false, cond, if◌then◌else◌, List, [], ◌∷◌, ◌++◌, length, Option, Some, None, is_none, refl, sym, ap, ap₂, ◌∙◌, subst, arith}
 use Rattle.std.proofs.lemmas.Bool.{eq-eqb, eqb-true, ne_eqb, lt-ltb, le-ltb}
 use Rattle.page_model.specs.Pages.{Pages, Address}
 use Rattle.page_model.specs.Counts.{times}
 use Rattle.page_model.proofs.CountLemmas.{times-append}
-use Rattle.store_data.specs.Store.{LogState, active, committed, purging, Row, Record, Log, Store}
+use Rattle.store_data.specs.Store.{LogState, active, committed, purging, Row, Log, Store}
 use Rattle.undo_model.specs.Data.{led, Entry, Part, Log as LogThere}
 use Rattle.undo_model.specs.Logs.{records_in, records_of, IsFilled, AreParts, AreNumbered, HasPlace, IsDueIn, end_field, first_start, other_start, IsLog}
 use Rattle.undo_model.specs.LogSteps.{same_address, number_at, is_greater, is_past, is_committed, has_page, log_with, is_purged_in, is_purged}
 use Rattle.undo_model.specs.LogLists.{pages_in, all_pages, AreLogs, AreCommitted, AreWaiting}
 use Rattle.undo_model.proofs.OptionLemmas.{some_some, not_some}
 use Rattle.store_model.specs.Steps.{log_of as log_in}
-use Rattle.store_model.specs.Undo.{same_place, record_at, record_in, named, counts_as_purged}
+use Rattle.store_model.specs.Undo.{record_at, record_in, counts_as_purged}
 use Rattle.store_model.specs.Well.{NoLog, AreDistinct}
-use Rattle.store_parts.specs.Stored.{Stored}
-use Rattle.store_parts.specs.Standing.{mark}
-use Rattle.store_parts.specs.Shows.{log_of, logs_of, entries_of, record_of, down_to, due, due_in, AreIn, IsStore}
+use Rattle.store_parts.specs.Shows.{log_of, logs_of, entries_of, record_of, down_to, due, due_in, IsStore}
 use Rattle.store_parts.proofs.CountLemmas.{mark_small, page_counts, times-joined}
 use Rattle.store_parts.proofs.FrameLemmas.{times-parts}
 use Rattle.store_pages.specs.Logs.{NamesRecord}

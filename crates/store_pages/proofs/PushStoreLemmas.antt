@@ -25,7 +25,8 @@ use Rattle.store_pages.specs.Pushes.{Pushes}
 use Rattle.store_parts.proofs.CountLemmas.{on_wider, on_join, on_pages}
 use Rattle.store_parts.proofs.KeepLemmas.{keeps_take, keeps_write, keeps_then, keeps_same}
 use Rattle.store_pages.proofs.OwnedLemmas.{data_split}
-use Rattle.store_pages.proofs.LobStoreLemmas.{lob_changed}
+use Rattle.store_pages.specs.Stands.{RowsStand}
+use Rattle.store_pages.proofs.LobStoreLemmas.{lob_rows, lob_changed}
 use Rattle.store_pages.proofs.UseLemmas.{lob_stands}
 
 -- ---- places of entries lie in pages of the LOB
@@ -133,3 +134,7 @@ module _ (old new : Pages) (store : Store) (page : ℕ) (l : Lob) (x : Version) 
   push_in_store = lob_changed old new store is page l (λ m. with_nodes l.index rest (at_piece (length bs) (pushed node x) m)) there
       (subst (IsLob new) (sym same) (pushed_stands steps.filled new (record l { free = rest }) bs p cs x node steps.pushing))
       (subst (λ m. Keeps [] (lob_pages l) (lob_pages m) old new) (sym same) keeps)
+
+  -- the row pages stand on
+  pub push_rows : RowsStand old new
+  push_rows = lob_rows old new store is page l (lob_pages target) there keeps

@@ -1,5 +1,5 @@
 -- Rows moved.
-use Rattle.std.proofs.Common.{◌≡◌, inl, inr, ℕ, ◌+◌, ◌≤◌, List, ◌∷◌, ◌++◌, map, ◌∙◌, arith, lit≤}
+use Rattle.std.proofs.Common.{◌≡◌, inl, inr, ℕ, ◌+◌, ◌≤◌, List, ◌∷◌, ◌++◌, ◌∙◌, arith, lit≤}
 use Rattle.page_model.specs.Pages.{Pages, field}
 use Rattle.page_model.specs.Spans.{Span, span, IsApart, IsApartFromAll, SameOutside}
 use Rattle.page_model.specs.Lists.{base_span}

@@ -13,7 +13,7 @@ use Rattle.store_parts.proofs.CountLemmas.{on_pages}
 use Rattle.store_parts.proofs.KeepLemmas.{keeps_write, keeps_then, keeps_same}
 use Rattle.store_pages.proofs.LobStoreLemmas.{found, lob_changed, taken}
 
-nowhere : (ts : List ℕ) (n : ℕ) → times n [] ≤ times n ts
+pub nowhere : (ts : List ℕ) (n : ℕ) → times n [] ≤ times n ts
 nowhere ts n = omega arith
 
 pub lob_written : (old new : Pages) (store : Store) (page : ℕ) (l : Lob) (f : Lob → Lob) → IsStore old store → lob_of store.lobs page ≡ Some l

@@ -4,6 +4,8 @@
 mod lobs;
 mod parts;
 mod rows;
+mod runs;
+mod standing;
 mod store;
 mod uses;
 
@@ -15,6 +17,10 @@ pub use parts::{
     counters_move, lob_let_in, lob_taken_out, log_let_in, log_listed, log_taken_out, rows_move,
 };
 pub use rows::row_log;
+pub use runs::runs_are_laid;
+pub use standing::{
+    rows_stand_by_lob, rows_stand_by_log, rows_stand_by_next_trx, rows_stand_by_oldest,
+};
 pub use store::{
     lob_begins, lob_changes, lob_goes, log_begins, log_changes, log_commits, log_is_purged,
     logs_stand, map_marks_owned, new_store_stands, next_trx_changes, purged_shows, rows_change,
