@@ -7,10 +7,10 @@ ghost use Rattle.engine_base.specs.Addresses.{address_of};
 ghost use Rattle.store_data.specs.Store.{active, purging};
 ghost use Rattle.page_space.specs.Map.{IsSize};
 ghost use Rattle.undo_model.specs.Data.{Log, Record, led};
-ghost use Rattle.undo_model.specs.Reading.{IsRecordAt, IsRecordPlace, is_previous};
+ghost use Rattle.undo_model.specs.Reading.{IsRecordAt, IsRecordPlace, BodyFits, is_previous};
 ghost use Rattle.undo_model.specs.Logs.{IfLog, state_number, records_of};
 ghost use Rattle.undo_model.specs.LogLists.{IfLogs};
-ghost use Rattle.undo_records.specs.Records.{record_of};
+ghost use Rattle.undo_records.specs.Records.{record_of, body_of, IsNarrow};
 ghost use Rattle.undo_logs.specs.Reads.{PointsTo, number_of, newest_pointer, IsDue, HasNext, IsLengthThere, IsNoRecord, page_number, oldest_page};
 
 use crate::appending::pointer;
@@ -115,6 +115,8 @@ pub fn at<P: Pages>(p: &mut P, roll: RollPtr) -> Result<UndoRecord, Fault>
         → (P.state p.old).told ≡ Some pages → led roll.0 ≡ Some a → IsRecordAt pages a r previous
         → IfOk result (λ x. record_of x ≡ r) }
     ensures doc { IfOk result (λ r. r.before.doc ≡ r.doc) }
+    ensures narrow { IfOk result (λ r. IsNarrow r.before) }
+    ensures fits { IfOk result (λ r. BodyFits (P.state p.old).count (body_of r.body)) }
     ensures honest { (a : Address) → led roll.0 ≡ Some a
         → IfErr result (IsHonest (IsNoRecord (P.state p.old).told a)) }
     ensures never { (pages : Pages) (a : Address) (r : Record) (previous : Address)
@@ -136,6 +138,8 @@ pub(crate) fn record_there<P: Pages>(p: &mut P, a: Addr) -> Result<UndoRecord, F
         → (P.state p.old).told ≡ Some pages → IsRecordAt pages (address_of a) r previous
         → IfOk result (λ x. record_of x ≡ r) }
     ensures doc { IfOk result (λ r. r.before.doc ≡ r.doc) }
+    ensures narrow { IfOk result (λ r. IsNarrow r.before) }
+    ensures fits { IfOk result (λ r. BodyFits (P.state p.old).count (body_of r.body)) }
     ensures honest { IfErr result (IsHonest (IsNoRecord (P.state p.old).told (address_of a))) }
     ensures never { (pages : Pages) (r : Record) (previous : Address)
         → (P.state p.old).told ≡ Some pages → IsRecordAt pages (address_of a) r previous

@@ -1,5 +1,6 @@
 -- A record and a row of the code, as the definitions over pages see them. The document of the row
 -- before isn't among what they see: it is the record's.
+use Rattle.std.specs.Prelude.{◌^◌, ◌<◌}
 use Rattle.store_data.specs.Store.{RowState as State, absent, live, deleted}
 use Rattle.undo_model.specs.Data.{Row as ModelRow, Body as ModelBody, inserted, rebuilt, versioned, patched, removed, Record}
 use Rattle.lob_pages.specs.References.{reference_of}
@@ -33,3 +34,8 @@ record_of r = record {
   before = row_of r.before;
   body = body_of r.body;
 }
+
+-- its transaction's id and its roll pointer have as many bits as a row has for them
+pub record IsNarrow (r : Row) : Type 0 where
+  pub trx : r.trx.0 < 2 ^ 48
+  pub roll : r.roll.0 < 2 ^ 56

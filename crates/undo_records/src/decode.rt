@@ -1,10 +1,10 @@
 //! What stands in bytes: a record, or none.
-ghost use Rattle.std.specs.Prelude.{◌≡◌, ◌+◌, ◌*◌, ◌-◌, ◌≤◌, ◌<◌, length, drop, Some, None, option_map, IfSome};
+ghost use Rattle.std.specs.Prelude.{◌≡◌, ◌+◌, ◌*◌, ◌-◌, ◌≤◌, ◌<◌, ◌^◌, length, drop, Some, None, option_map, IfSome};
 ghost use Rattle.byteorder.specs.Endian.{big_number};
 ghost use Rattle.undo_model.specs.Reading.{is_place, is_previous, is_pointer, is_reference, reference_in, row_in, is_run, runs_in, new_lob_in, versioned_in, patched_in, body_in, record_in};
 ghost use Rattle.undo_model.specs.Data.{inserted, rebuilt};
 ghost use Rattle.lob_pages.specs.References.{reference_of};
-ghost use Rattle.undo_records.specs.Records.{row_of, state_of, body_of};
+ghost use Rattle.undo_records.specs.Records.{row_of, state_of, body_of, IsNarrow};
 ghost use Rattle.undo_records.specs.declared.record_type.Body.TheVariants.{Versioned, Patched};
 ghost use Rattle.undo_records.specs.Reading.{some_state, standing_of, record_front};
 
@@ -37,7 +37,8 @@ fn behind(bytes: &[u8], at: usize) -> &[u8]
 fn uint_at(bytes: &[u8], at: usize, width: usize) -> u64
     requires width { (1 ≤ width) × (width ≤ 8) }
     requires within { at + width ≤ length bytes.now }
-    ensures { result ≡ big_number width (drop at bytes.now) }
+    ensures value { result ≡ big_number width (drop at bytes.now) }
+    ensures narrow { result < 256 ^ width }
 {
     BigEndian::read_uint(behind(bytes, at), width)
 }
@@ -120,6 +121,7 @@ fn row(count: u32, doc: DocId, bytes: &[u8]) -> Option<Row>
     requires { 34 ≤ length bytes.now }
     ensures value { option_map row_of result ≡ row_in count bytes.now }
     ensures doc { IfSome result (λ r. r.doc ≡ doc) }
+    ensures narrow { IfSome result IsNarrow }
 {
     let state = state(bytes[0])?;
     let trx = uint_at(bytes, 1, 6);
@@ -248,6 +250,7 @@ pub(crate) fn record(count: u32, bytes: &[u8]) -> Option<Standing>
     requires { 51 ≤ length bytes.now }
     ensures value { option_map standing_of result ≡ record_in count bytes.now }
     ensures doc { IfSome result (λ s. s.rec.before.doc ≡ s.rec.doc) }
+    ensures narrow { IfSome result (λ s. IsNarrow s.rec.before) }
 {
     let previous = Addr {
         page: PageNo(u32_at(bytes, PREVIOUS)),
@@ -276,6 +279,7 @@ pub(crate) fn record_at(count: u32, bytes: &[u8]) -> Option<Standing>
     requires { 51 ≤ length bytes.now }
     ensures value { option_map standing_of result ≡ record_front count bytes.now }
     ensures doc { IfSome result (λ s. s.rec.before.doc ≡ s.rec.doc) }
+    ensures narrow { IfSome result (λ s. IsNarrow s.rec.before) }
 {
     let size = usize::from(u16_at(bytes, 0));
     if size < HEAD {

@@ -5,7 +5,7 @@ ghost use Rattle.engine_base.specs.Faults.{HasCause, FailsPlainly};
 ghost use Rattle.engine_base.specs.Addresses.{address_of};
 ghost use Rattle.undo_model.specs.Bytes.{record_size, record_bytes};
 ghost use Rattle.undo_model.specs.Reading.{IsRecordPlace, IsSoundRecord, IsSoundPrevious, WritesRecord, BodyFits, record_end};
-ghost use Rattle.undo_records.specs.Records.{record_of, body_of};
+ghost use Rattle.undo_records.specs.Records.{record_of, body_of, IsNarrow};
 ghost use Rattle.undo_records.specs.Answers.{AnswersRead, FailsThere, HasRecordCause};
 
 use crate::UndoRecord;
@@ -54,6 +54,7 @@ pub fn read<P: Pages>(p: &mut P, at: Addr) -> Result<UndoRecord, RecordError>
     requires may { MayUse (at.page.0 ∷ []) 0 0 (P.state p.old) }
     ensures answers { IfSome (P.state p.old).told (λ pages. AnswersRead pages at result) }
     ensures doc { IfOk result (λ r. r.before.doc ≡ r.doc) }
+    ensures narrow { IfOk result (λ r. IsNarrow r.before) }
     ensures fits { IfOk result (λ r. BodyFits (P.state p.old).count (body_of r.body)) }
     ensures there { FailsThere at result }
     ensures told { (P.state p.new).told ≡ (P.state p.old).told }
@@ -74,6 +75,7 @@ fn read_in<P: Pages>(p: &mut P, at: Addr, bytes: &mut [u8]) -> Result<UndoRecord
     requires may { MayUse (at.page.0 ∷ []) 0 0 (P.state p.old) }
     ensures answers { IfSome (P.state p.old).told (λ pages. AnswersRead pages at result) }
     ensures doc { IfOk result (λ r. r.before.doc ≡ r.doc) }
+    ensures narrow { IfOk result (λ r. IsNarrow r.before) }
     ensures fits { IfOk result (λ r. BodyFits (P.state p.old).count (body_of r.body)) }
     ensures there { FailsThere at result }
     ensures told { (P.state p.new).told ≡ (P.state p.old).told }
