@@ -1,5 +1,5 @@
 -- Row pages in which one slot changes, as a store sees it.
-use Rattle.std.proofs.Common.{◌≡◌, ◌≢◌, ◌⊎◌, inl, inr, ℕ, ◌+◌, ◌*◌, ◌<◌, ◌≤◌, ◌%◌, List, [], ◌∷◌, ◌++◌, length, map, Option, Some, None, refl, sym, ap, subst, lit≤, ◌∙◌, arith}
+use Rattle.std.proofs.Common.{◌≡◌, ◌≢◌, ◌⊎◌, inl, inr, ℕ, ◌+◌, ◌*◌, ◌≤◌, ◌%◌, List, [], ◌∷◌, ◌++◌, length, map, Option, refl, sym, ap, subst, ◌∙◌, arith}
 use Rattle.std.specs.Int.{bit_at}
 use Rattle.std.proofs.lemmas.List.{length-append}
 use Rattle.page_model.specs.Pages.{Pages, Address, field}
@@ -9,13 +9,13 @@ use Rattle.page_model.specs.Counts.{times}
 use Rattle.page_model.proofs.CountLemmas.{times_here, times-append}
 use Rattle.page_model.proofs.FrameLemmas.{field_kept, outside_wider}
 use Rattle.page_model.proofs.ListLemmas.{list_kept}
-use Rattle.page_space.specs.Map.{IsMap, IsUsed, bit, place_of, free_of, map_spans}
+use Rattle.page_space.specs.Map.{IsUsed, place_of, free_of, map_spans}
 use Rattle.page_space.proofs.MapLemmas.{map_kept}
 use Rattle.undo_model.specs.Logs.{node_of}
-use Rattle.undo_model.specs.Rows.{Keyed, RowPage, IsSlot, AreSlots, IsRowPage, AreRowPages, AreOnce, IsRows, row_base, row_nodes, rows_of, somes, page_spans}
+use Rattle.undo_model.specs.Rows.{Keyed, RowPage, IsSlot, AreSlots, IsRowPage, AreRowPages, AreOnce, IsRows, row_base, row_nodes, rows_of, somes}
 use Rattle.store_parts.specs.Appends.{AreUsed}
 use Rattle.store_parts.specs.Stored.{row_pages}
-use Rattle.store_parts.specs.Standing.{mark, AreOn, MovesRows}
+use Rattle.store_parts.specs.Standing.{MovesRows}
 use Rattle.store_parts.proofs.MoveLemmas.{mark_same}
 use Rattle.row_dir.specs.RowPages.{SetsSlotTo, CanChange, page_of}
 use Rattle.row_dir.proofs.SlotChangeLemmas.{slots_kept}

@@ -1,10 +1,10 @@
 -- A row page given back.
-use Rattle.std.proofs.Common.{◌≡◌, ◌≢◌, ◌⊎◌, inl, inr, ℕ, ◌+◌, ◌*◌, ◌<◌, ◌≤◌, ◌%◌, ◌==◌, nat_eq, cond, List, [], ◌∷◌, ◌++◌, length, map, take, Option, Some, None, refl, sym, ap, ap₂, subst, lit≤, ◌∙◌, arith}
+use Rattle.std.proofs.Common.{◌≡◌, ◌⊎◌, inl, inr, ℕ, ◌+◌, ◌*◌, ◌<◌, ◌≤◌, ◌%◌, ◌==◌, nat_eq, cond, List, [], ◌∷◌, ◌++◌, length, map, take, Option, Some, None, refl, sym, ap, ap₂, subst, lit≤, ◌∙◌, arith}
 use Rattle.std.specs.Int.{bit_at}
 use Rattle.std.specs.Option.{option_map}
 use Rattle.std.specs.Map.{keys_of, lookup}
 use Rattle.std.specs.List.{IsDistinct}
-use Rattle.std.proofs.lemmas.List.{length-append, append-nil, append_assoc, nil_from_length}
+use Rattle.std.proofs.lemmas.List.{length-append, append-nil, nil_from_length}
 use Rattle.std.proofs.lemmas.Bool.{cases_eq, eq-eqb, ne_eqb}
 use Rattle.indexmap.specs.IndexMap.{get, shift_remove_entry}
 use Rattle.page_model.specs.Pages.{Pages, Address}
@@ -16,7 +16,7 @@ use Rattle.page_model.proofs.CountLemmas.{times-append}
 use Rattle.page_model.proofs.FrameLemmas.{field_kept, outside_then, outside_wider, off_part}
 use Rattle.page_model.proofs.SpanLemmas.{from_join}
 use Rattle.page_model.proofs.ListLemmas.{list_kept}
-use Rattle.page_space.specs.Map.{IsMap, IsUsed, bit, place_of, free_of, map_spans, GivesPage}
+use Rattle.page_space.specs.Map.{IsMap, IsUsed, bit, place_of, free_of, GivesPage}
 use Rattle.page_space.proofs.MapLemmas.{map_kept}
 use Rattle.file_lists.specs.Changes.{ChangesList}
 use Rattle.engine_base.specs.Addresses.{address_of}
@@ -26,7 +26,7 @@ use Rattle.undo_model.specs.Logs.{node_of}
 use Rattle.undo_model.specs.Rows.{Keyed, RowPage, AreRowPages, AreOnce, IsRows, row_base, row_nodes, rows_of, row_for, somes}
 use Rattle.store_parts.specs.Appends.{AreUsed}
 use Rattle.store_parts.specs.Stored.{row_pages}
-use Rattle.store_parts.specs.Standing.{mark, AreOn, MovesRows}
+use Rattle.store_parts.specs.Standing.{mark}
 use Rattle.store_parts.proofs.MoveLemmas.{mark_at, mark_same}
 use Rattle.store_parts.proofs.CountLemmas.{on_wider}
 use Rattle.row_dir.specs.declared.dir.RowDir.{RowDir}
@@ -34,13 +34,14 @@ use Rattle.row_dir.specs.Directory.{free_in, rooms_of, places_in, places_of, pla
 use Rattle.row_dir.specs.Notes.{ForgetsRow, ForgetsPage}
 use Rattle.row_dir.specs.RowPages.{CanChange, page_of}
 use Rattle.row_dir.specs.Removes.{RemovesRow, DropsPage}
+use Rattle.row_dir.proofs.PlainLemmas.{removes_row}
 use Rattle.row_dir.proofs.RowsLemmas.{rows_join, rows_before, rows_behind, rows_around, somes_join, places_join, places_before, places_behind, places_around, once_less}
 use Rattle.row_dir.proofs.ChangeLemmas.{are_split, used_among, page_kept}
 use Rattle.row_dir.proofs.OpenLemmas.{nodes_miss, nodes_on, OffZero, off_used, zero_nodes, zero_off, nodes_far}
 use Rattle.row_dir.proofs.PutLemmas.{rooms_join, all_slots}
 use Rattle.row_dir.proofs.ReplaceLemmas.{slot_of_doc}
 use Rattle.row_dir.proofs.ForgetLemmas.{full_less}
-use Rattle.row_dir.proofs.RemoveLemmas.{once_without, shows_without, places_without, directory_without, room_there, remove_there}
+use Rattle.row_dir.proofs.RemoveLemmas.{shows_without, places_without, directory_without, room_there, remove_there}
 
 nodes_join : (bs cs : List RowPage) → row_nodes (bs ++ cs) ≡ row_nodes bs ++ row_nodes cs
 nodes_join [] cs = refl
@@ -240,13 +241,8 @@ module _ (old new : Pages) (bs : List RowPage) (n : ℕ) (ss ts : List (Option K
       let P : ℕ → Type 0 = λ m. (e : ℕ) → place_for e (places_of after) ≡ cond (nat_eq m e) None (place_for e (places_of rows)) in
       let shows = shows_without rows after (rows_before bs ss) (rows_behind ts cs) k (places_before bs n ss) (places_behind n ss ts cs) a (rows_around bs n ss (Some k) ts cs) now_rows (places_around bs n ss (Some k) ts cs) now_places is.once in
       let places = places_without rows after (rows_before bs ss) (rows_behind ts cs) k (places_before bs n ss) (places_behind n ss ts cs) a (rows_around bs n ss (Some k) ts cs) now_rows (places_around bs n ss (Some k) ts cs) now_places is.once in
-      record {
-        after = after;
-        spans = drop.spans;
-        moves = drop.moves;
-        directory = directory_without dir mid dir' rows after doc d frees.places frees.docs mid_rooms frees.each_once mid_full forgets (subst P its places);
-        shows = subst S its shows;
-      }
+      removes_row rows after drop.spans old new drop.moves doc.0 dir'
+      (directory_without dir mid dir' rows after doc d frees.places frees.docs mid_rooms frees.each_once mid_full forgets (subst P its places)) (subst S its shows)
 
 pub dropped_last : (t2 : Option Pages) (old : Pages) (rows : List RowPage) (dir mid dir' : RowDir) (doc : DocId) (place : Addr) → IsRows old row_base rows → CanChange rows old → IsDirectory dir rows → get nat_eq dir.places doc.0 ≡ Some place
     → ((free : ℕ) → get nat_eq dir.pages place.page.0 ≡ Some free → free + 1 ≡ 408)

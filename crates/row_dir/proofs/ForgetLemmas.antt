@@ -1,14 +1,14 @@
 -- What is taken out of the directory in memory.
-use Rattle.std.proofs.Common.{◌≡◌, ◌≢◌, ℕ, zero, suc, ◌+◌, ◌<◌, ◌≤◌, ◌==◌, nat_eq, nat_lt, not, Bool, true, false, cond, List, [], ◌∷◌, ◌++◌, length, map, take, position, Option, Some, None, is_some, IsSome, refl, sym, ap, subst, ◌∙◌, arith}
+use Rattle.std.proofs.Common.{◌≡◌, ℕ, zero, suc, ◌<◌, ◌≤◌, nat_eq, nat_lt, not, Bool, true, false, cond, List, [], ◌∷◌, ◌++◌, length, take, position, Option, Some, None, is_some, IsSome, refl, sym, ap, subst, ◌∙◌, arith}
 use Rattle.std.proofs.Common.{inl, inr, Result, Ok, Err, OnOk, OnErr}
 use Rattle.std.specs.Option.{unwrap_or}
-use Rattle.std.specs.Map.{keys_of, lookup}
+use Rattle.std.specs.Map.{keys_of}
 use Rattle.std.specs.List.{position_or_len, swap_remove}
 use Rattle.std.proofs.lemmas.Bool.{cases_Bool, eq-eqb}
-use Rattle.std.proofs.lemmas.List.{length-append, length-map}
+use Rattle.std.proofs.lemmas.List.{length-map}
 use Rattle.indexmap.specs.IndexMap.{swap_remove_entry}
 use Rattle.indexmap.proofs.SetLemmas.{map-swap_remove}
-use Rattle.indexmap.proofs.MapLemmas.{swap_remove_entry-found, Found-position}
+use Rattle.indexmap.proofs.MapLemmas.{swap_remove_entry-found}
 use Rattle.engine_base.specs.declared.addr.Addr.{Addr}
 use Rattle.engine_base.specs.declared.ids.DocId.{DocId}
 use Rattle.row_dir.specs.Directory.{AreFull, numbers}

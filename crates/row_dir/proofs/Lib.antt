@@ -4,6 +4,7 @@ pub mod RoomLemmas
 pub mod SlotChangeLemmas
 pub mod RowsLemmas
 pub mod ChangeLemmas
+pub mod PlainLemmas
 pub mod PutLemmas
 pub mod OpenLemmas
 pub mod UseLemmas
@@ -12,4 +13,7 @@ pub mod ForgetLemmas
 pub mod RemoveLemmas
 pub mod DropLemmas
 pub mod LoadLemmas
+pub mod SameLemmas
+pub mod StoreLemmas
+pub mod HonestLemmas
 pub mod TestLemmas

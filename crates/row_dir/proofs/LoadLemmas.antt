@@ -1,9 +1,9 @@
 -- Rows entered from the slots of a row page.
-use Rattle.std.proofs.Common.{◌≡◌, ◌≢◌, ◌⊎◌, inl, inr, ℕ, zero, suc, ◌+◌, ◌*◌, ◌<◌, ◌≤◌, ◌==◌, nat_eq, Bool, true, false, cond, List, [], ◌∷◌, ◌++◌, length, map, take, Option, Some, None, IfSome, is_some, refl, sym, ap, ap₂, subst, lit≤, ◌∙◌, arith}
+use Rattle.std.proofs.Common.{◌≡◌, ◌⊎◌, inl, inr, ℕ, zero, suc, ◌+◌, ◌*◌, ◌<◌, ◌≤◌, ◌==◌, nat_eq, false, cond, List, [], ◌∷◌, ◌++◌, length, take, Option, Some, None, IfSome, is_some, refl, sym, ap, subst, ◌∙◌, arith}
 use Rattle.std.proofs.Common.{Result, Ok, Err, IfErr, IsErr, IsErrAnd, is_ok, if◌then◌else◌}
 use Rattle.std.specs.Option.{option_map}
 use Rattle.std.specs.Map.{keys_of, lookup}
-use Rattle.std.proofs.lemmas.Bool.{cases_Bool, eqb-true, ne_eqb}
+use Rattle.std.proofs.lemmas.Bool.{ne_eqb}
 use Rattle.std.proofs.lemmas.List.{length-append, append_assoc, append-nil}
 use Rattle.indexmap.specs.IndexMap.{get, insert_entry, IsUnique}
 use Rattle.indexmap.proofs.CallerLemmas.{insert_entry-new}
@@ -16,7 +16,7 @@ use Rattle.engine_base.specs.declared.addr.Addr.{Addr}
 use Rattle.engine_base.specs.declared.ids.DocId.{DocId}
 use Rattle.store_data.specs.Store.{RowState, absent, live, deleted}
 use Rattle.undo_model.specs.Bytes.{state_code}
-use Rattle.undo_model.specs.Rows.{Keyed, RowPage, IsPresent, IsNew, AreOnce, IsRows, IsRowPage, IsSlot, AreSlots, somes, rows_of, row_for}
+use Rattle.undo_model.specs.Rows.{Keyed, RowPage, IsPresent, AreOnce, IsRows, IsSlot, AreSlots, somes, rows_of, row_for}
 use Rattle.row_dir.specs.declared.dir.RowDir.{RowDir}
 use Rattle.row_dir.specs.RowPages.{page_of}
 use Rattle.row_dir.specs.Directory.{free_in, rooms_of, places_in, places_of, place_for, AreFull, IsDirectory, numbers}

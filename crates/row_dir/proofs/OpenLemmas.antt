@@ -2,8 +2,8 @@
 use Rattle.std.proofs.Common.{◌≡◌, ◌≢◌, ◌⊎◌, inl, inr, ℕ, zero, suc, ◌+◌, ◌*◌, ◌<◌, ◌≤◌, ◌%◌, List, [], ◌∷◌, ◌++◌, length, map, replicate, Option, Some, None, refl, sym, ap, subst, lit≤, ◌∙◌, arith}
 use Rattle.std.specs.Option.{option_map}
 use Rattle.std.specs.Int.{bit_at}
-use Rattle.std.proofs.lemmas.List.{length-append, length-replicate, append-nil}
-use Rattle.page_model.specs.Pages.{Pages, AreWhole, Fits, Address, byte, field, written, null_page, page_bytes}
+use Rattle.std.proofs.lemmas.List.{length-replicate, append-nil}
+use Rattle.page_model.specs.Pages.{Pages, AreWhole, Address, byte, field, written, null_page, page_bytes}
 use Rattle.page_model.specs.Spans.{Span, span, SameOutside, IsOffAll, IsApartFromAll, AreApart}
 use Rattle.page_model.specs.Lists.{IsList, base_span, node_span, list_spans}
 use Rattle.page_model.specs.Tables.{HasFields, SetsFields, field_at, header_fields}
@@ -12,19 +12,19 @@ use Rattle.page_model.specs.Counts.{times}
 use Rattle.page_model.proofs.CountLemmas.{times_here, times-append}
 use Rattle.page_model.proofs.FrameLemmas.{field_kept, outside_then, outside_wider, off_part, written_outside}
 use Rattle.page_model.proofs.ListLemmas.{list_kept}
-use Rattle.page_model.proofs.TableLemmas.{sets_then, rising_across, table_written}
+use Rattle.page_model.proofs.TableLemmas.{sets_then, rising_across}
 use Rattle.page_model.proofs.StepLemmas.{told_step}
-use Rattle.page_space.specs.Map.{IsMap, IsUsed, IsFree, bit, place_of, free_of, map_spans, TakesPage}
+use Rattle.page_space.specs.Map.{IsMap, IsUsed, IsFree, bit, place_of, free_of, TakesPage}
 use Rattle.page_space.proofs.MapLemmas.{map_kept, field-byte}
 use Rattle.page_space.proofs.SystemLemmas.{blank_at}
 use Rattle.file_lists.specs.Changes.{ChangesList, IsElsewhere}
 use Rattle.lob_pages.proofs.ByteLemmas.{in_written}
 use Rattle.lob_pages.proofs.EntryLemmas.{told_written}
 use Rattle.undo_model.specs.Logs.{node_of}
-use Rattle.undo_model.specs.Rows.{Keyed, RowPage, IsSlot, AreSlots, IsRowPage, AreRowPages, AreOnce, IsRows, row_base, row_nodes, rows_of, row_for, somes}
+use Rattle.undo_model.specs.Rows.{Keyed, RowPage, AreSlots, IsRowPage, AreRowPages, AreOnce, IsRows, row_base, row_nodes, rows_of, row_for, somes}
 use Rattle.store_parts.specs.Appends.{AreUsed}
 use Rattle.store_parts.specs.Stored.{row_pages}
-use Rattle.store_parts.specs.Standing.{AreOn, MovesRows}
+use Rattle.store_parts.specs.Standing.{AreOn}
 use Rattle.store_parts.proofs.MoveLemmas.{mark_same, taken_marks}
 use Rattle.store_parts.proofs.CountLemmas.{on_wider}
 use Rattle.row_dir.specs.Slots.{SetsSlot}

@@ -1,10 +1,10 @@
 -- What a put leaves: the rows, the directory, and where a new row went.
-use Rattle.std.proofs.Common.{◌≡◌, ◌≢◌, ◌⊎◌, inl, inr, ℕ, ◌+◌, ◌-◌, ◌*◌, ◌<◌, ◌≤◌, ◌==◌, nat_eq, Bool, true, false, cond, if◌then◌else◌, List, [], ◌∷◌, ◌++◌, length, map, take, Option, Some, None, is_some, refl, sym, ap, ap₂, subst, lit≤, ◌∙◌, arith}
+use Rattle.std.proofs.Common.{◌≡◌, inl, ℕ, ◌+◌, ◌-◌, ◌*◌, ◌≤◌, ◌==◌, nat_eq, Bool, true, false, cond, List, [], ◌∷◌, ◌++◌, length, take, Option, Some, None, is_some, refl, sym, ap, ap₂, subst, ◌∙◌, arith}
 use Rattle.std.specs.Option.{option_map}
-use Rattle.std.specs.Map.{keys_of, lookup}
+use Rattle.std.specs.Map.{keys_of}
 use Rattle.std.specs.List.{IsDistinct, AllByRecursion}
-use Rattle.std.proofs.lemmas.List.{length-append, append_assoc}
-use Rattle.std.proofs.lemmas.Bool.{cases_Bool, eqb-true, eq-eqb, ne_eqb}
+use Rattle.std.proofs.lemmas.List.{length-append}
+use Rattle.std.proofs.lemmas.Bool.{eq-eqb, ne_eqb}
 use Rattle.indexmap.specs.IndexMap.{get, insert_entry}
 use Rattle.page_model.specs.Pages.{Pages, Address}
 use Rattle.page_model.specs.Spans.{span}
@@ -13,14 +13,15 @@ use Rattle.engine_base.specs.Addresses.{address_of}
 use Rattle.engine_base.specs.declared.addr.Addr.{Addr}
 use Rattle.engine_base.specs.declared.ids.DocId.{DocId}
 use Rattle.undo_model.specs.Data.{Row}
-use Rattle.undo_model.specs.Rows.{Keyed, RowPage, IsNew, AreOnce, IsRows, AreSlots, AreRowPages, row_base, somes, rows_of, row_for}
+use Rattle.undo_model.specs.Rows.{Keyed, RowPage, AreOnce, IsRows, AreSlots, AreRowPages, row_base, somes, rows_of, row_for}
 use Rattle.row_dir.specs.declared.dir.RowDir.{RowDir}
-use Rattle.row_dir.specs.Directory.{free_in, rooms_of, places_of, place_for, AreFull, IsFirstOpen, IsDirectory, IsBelow, numbers}
+use Rattle.row_dir.specs.Directory.{free_in, rooms_of, places_of, place_for, AreFull, IsFirstOpen, IsDirectory, numbers}
 use Rattle.row_dir.specs.Notes.{NotesRow}
 use Rattle.row_dir.specs.RowPages.{SetsSlotTo, CanChange, IsFirstFree, page_of}
-use Rattle.row_dir.specs.Puts.{FillsFirst, OpensLast, PutsRow}
-use Rattle.row_dir.proofs.RowsLemmas.{rows_before, rows_behind, rows_around, somes_join, places_before, places_behind, places_around, look_more, new_of, once_more, once_less, none_of_new, row_more}
-use Rattle.row_dir.proofs.FindLemmas.{some_both, none_found}
+use Rattle.row_dir.specs.Puts.{PutsRow}
+use Rattle.row_dir.proofs.RowsLemmas.{rows_before, rows_behind, rows_around, somes_join, places_before, places_behind, places_around, look_more, new_of, once_more, row_more}
+use Rattle.row_dir.proofs.PlainLemmas.{puts_row}
+use Rattle.row_dir.proofs.FindLemmas.{some_both}
 use Rattle.row_dir.proofs.ChangeLemmas.{are_split, slot_moved, slot_free_kept}
 
 -- ---- pages with their free slots
@@ -177,14 +178,10 @@ module _ (old new : Pages) (bs : List RowPage) (n : ℕ) (ss ts : List (Option K
 
   pub filled_there : PutsRow k dir' (bs ++ page_of n (ss ++ None ∷ ts) ∷ cs) old new × (free_of new ≡ free_of old)
   filled_there = (
-    record {
-      after = bs ++ page_of n (ss ++ Some k ∷ ts) ∷ cs;
-      spans = span n (52 + 40 * length ss) 40 ∷ span n 50 2 ∷ [];
-      moves = slot_moved old new bs n ss None (Some k) ts cs (address_of place) count is can sets in_page at counted some_rows once_now;
-      directory = directory_now;
-      shows = λ m. ap (row_for m) around' ∙ (row_more m (rows_before bs ss) k (rows_behind ts cs) none_there ∙ ap (λ (o : Option Row). cond (k.doc == m) (Some k.row) o) (sym (ap (row_for m) around)));
-      goes = λ is_new. inl (record { before = bs; page = n; slots_before = ss; slots_behind = ts; behind = cs; was = refl; full = full; taken = taken; now = refl });
-    },
+    puts_row (bs ++ page_of n (ss ++ None ∷ ts) ∷ cs) (bs ++ page_of n (ss ++ Some k ∷ ts) ∷ cs) (span n (52 + 40 * length ss) 40 ∷ span n 50 2 ∷ []) old new
+        (slot_moved old new bs n ss None (Some k) ts cs (address_of place) count is can sets in_page at counted some_rows once_now) k dir' directory_now
+        (λ m. ap (row_for m) around' ∙ (row_more m (rows_before bs ss) k (rows_behind ts cs) none_there ∙ ap (λ (o : Option Row). cond (k.doc == m) (Some k.row) o) (sym (ap (row_for m) around))))
+        (λ is_new. inl (record { before = bs; page = n; slots_before = ss; slots_behind = ts; behind = cs; was = refl; full = full; taken = taken; now = refl })),
     slot_free_kept old new bs n ss None (Some k) ts cs (address_of place) count is can sets in_page at counted some_rows once_now,
   )
 

@@ -1,10 +1,10 @@
 -- What a row less means: for the rows, for the directory, and for the pages.
-use Rattle.std.proofs.Common.{◌≡◌, ◌≢◌, ◌⊎◌, inl, inr, ℕ, zero, suc, ◌+◌, ◌-◌, ◌*◌, ◌<◌, ◌≤◌, ◌==◌, nat_eq, Bool, true, false, cond, List, [], ◌∷◌, ◌++◌, length, map, take, Option, Some, None, is_some, refl, sym, ap, ap₂, subst, lit≤, ◌∙◌, arith}
+use Rattle.std.proofs.Common.{◌≡◌, ℕ, ◌+◌, ◌-◌, ◌*◌, ◌<◌, ◌≤◌, ◌==◌, nat_eq, Bool, true, false, cond, List, [], ◌∷◌, ◌++◌, length, take, Option, Some, None, is_some, refl, sym, ap, ap₂, subst, ◌∙◌, arith}
 use Rattle.std.specs.Option.{option_map}
 use Rattle.std.specs.Map.{keys_of, lookup}
-use Rattle.std.specs.List.{IsDistinct, AllByRecursion}
-use Rattle.std.proofs.lemmas.List.{length-append, append-nil}
-use Rattle.std.proofs.lemmas.Bool.{cases_Bool, eqb-true, eq-eqb, ne_eqb}
+use Rattle.std.specs.List.{IsDistinct}
+use Rattle.std.proofs.lemmas.List.{length-append}
+use Rattle.std.proofs.lemmas.Bool.{eqb-true, eq-eqb, ne_eqb}
 use Rattle.indexmap.specs.IndexMap.{get, insert_entry, shift_remove_entry}
 use Rattle.page_model.specs.Pages.{Pages, Address}
 use Rattle.page_model.specs.Spans.{span}
@@ -13,16 +13,17 @@ use Rattle.engine_base.specs.Addresses.{address_of}
 use Rattle.engine_base.specs.declared.addr.Addr.{Addr}
 use Rattle.engine_base.specs.declared.ids.DocId.{DocId}
 use Rattle.undo_model.specs.Data.{Row}
-use Rattle.undo_model.specs.Rows.{Keyed, RowPage, IsNew, AreOnce, IsRowPage, IsRows, row_base, somes, rows_of, row_for}
+use Rattle.undo_model.specs.Rows.{Keyed, RowPage, IsNew, AreOnce, IsRows, row_base, somes, rows_of, row_for}
 use Rattle.row_dir.specs.declared.dir.RowDir.{RowDir}
-use Rattle.row_dir.specs.Directory.{free_in, rooms_of, places_in, places_of, place_for, AreFull, IsDirectory, numbers}
-use Rattle.row_dir.specs.Notes.{ForgetsRow, FreesSlot, ForgetsPage}
+use Rattle.row_dir.specs.Directory.{free_in, rooms_of, places_of, place_for, AreFull, IsDirectory, numbers}
+use Rattle.row_dir.specs.Notes.{ForgetsRow, FreesSlot}
 use Rattle.row_dir.specs.RowPages.{SetsSlotTo, CanChange, page_of}
-use Rattle.row_dir.specs.Removes.{RemovesRow, DropsPage}
-use Rattle.row_dir.proofs.RowsLemmas.{rows_before, rows_behind, rows_around, somes_join, places_before, places_behind, places_around, places_join, rows_join, look_more, once_less, none_of_new, row_more}
+use Rattle.row_dir.specs.Removes.{RemovesRow}
+use Rattle.row_dir.proofs.PlainLemmas.{removes_row}
+use Rattle.row_dir.proofs.RowsLemmas.{rows_before, rows_behind, rows_around, places_before, places_behind, places_around, look_more, once_less, none_of_new, row_more}
 use Rattle.row_dir.proofs.FindLemmas.{some_both}
 use Rattle.row_dir.proofs.ChangeLemmas.{are_split, slot_moved, slot_free_kept}
-use Rattle.row_dir.proofs.PutLemmas.{rooms_join, free_join, all_slots, all_at, insert_there, map_cond}
+use Rattle.row_dir.proofs.PutLemmas.{rooms_join, free_join, all_slots, all_at, insert_there}
 use Rattle.row_dir.proofs.ReplaceLemmas.{slot_of_doc}
 use Rattle.row_dir.proofs.ForgetLemmas.{full_less}
 
@@ -162,13 +163,9 @@ module _ (old new : Pages) (bs : List RowPage) (n : ℕ) (ss ts : List (Option K
       let P : ℕ → Type 0 = λ m. (e : ℕ) → place_for e (places_of after) ≡ cond (nat_eq m e) None (place_for e (places_of rows)) in
       let shows = shows_without rows after (rows_before bs ss) (rows_behind ts cs) k (places_before bs n ss) (places_behind n ss ts cs) a around around' (places_around bs n ss (Some k) ts cs) (places_around bs n ss None ts cs) is.once in
       let places = places_without rows after (rows_before bs ss) (rows_behind ts cs) k (places_before bs n ss) (places_behind n ss ts cs) a around around' (places_around bs n ss (Some k) ts cs) (places_around bs n ss None ts cs) is.once in (
-        record {
-          after = after;
-          spans = span n (52 + 40 * length ss) 40 ∷ span n 50 2 ∷ [];
-          moves = slot_moved old new bs n ss (Some k) None ts cs (address_of place) (407 - free) is can sets in_page at counted some once_now;
-          directory = directory_without dir mid dir' rows after doc d frees.places frees.docs mid_rooms frees.each_once mid_full forgets (subst P its places);
-          shows = subst S its shows;
-        },
+        removes_row rows after (span n (52 + 40 * length ss) 40 ∷ span n 50 2 ∷ []) old new
+            (slot_moved old new bs n ss (Some k) None ts cs (address_of place) (407 - free) is can sets in_page at counted some once_now) doc.0 dir'
+            (directory_without dir mid dir' rows after doc d frees.places frees.docs mid_rooms frees.each_once mid_full forgets (subst P its places)) (subst S its shows),
         slot_free_kept old new bs n ss (Some k) None ts cs (address_of place) (407 - free) is can sets in_page at counted some once_now,
       )
 

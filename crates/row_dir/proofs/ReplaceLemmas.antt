@@ -1,12 +1,11 @@
 -- A row put over that of its document, and one put on a page of its own.
-use Rattle.std.proofs.Common.{◌≡◌, ◌≢◌, ◌⊎◌, inl, inr, ℕ, zero, suc, ◌+◌, ◌*◌, ◌<◌, ◌≤◌, ◌==◌, nat_eq, Bool, true, false, cond, List, [], ◌∷◌, ◌++◌, length, take, replicate, Option, Some, None, is_some, refl, sym, ap, ap₂, subst, lit≤, ◌∙◌, arith}
+use Rattle.std.proofs.Common.{◌≡◌, ◌⊎◌, inl, inr, ℕ, zero, suc, ◌+◌, ◌*◌, ◌≤◌, ◌==◌, nat_eq, Bool, true, false, cond, List, [], ◌∷◌, ◌++◌, length, take, replicate, Option, Some, None, is_some, refl, sym, ap, ap₂, subst, ◌∙◌, arith}
 use Rattle.std.specs.Option.{option_map}
-use Rattle.std.specs.Map.{keys_of, lookup}
 use Rattle.std.proofs.lemmas.List.{length-append, append-nil}
 use Rattle.std.proofs.lemmas.Bool.{cases_Bool, eqb-true, ne_eqb}
 use Rattle.indexmap.specs.IndexMap.{get, insert_entry}
 use Rattle.page_model.specs.Pages.{Pages, Address, field}
-use Rattle.page_model.specs.Spans.{Span, span, SameOutside}
+use Rattle.page_model.specs.Spans.{span}
 use Rattle.page_model.proofs.FrameLemmas.{field_kept, outside_wider}
 use Rattle.page_space.specs.Map.{free_of}
 use Rattle.engine_base.specs.Addresses.{address_of}
@@ -20,7 +19,8 @@ use Rattle.row_dir.specs.Directory.{free_in, rooms_of, places_in, places_of, pla
 use Rattle.row_dir.specs.Notes.{NotesRow}
 use Rattle.row_dir.specs.RowPages.{SetsSlotTo, CanChange, OpensPage, page_of}
 use Rattle.row_dir.specs.Puts.{PutsRow}
-use Rattle.row_dir.proofs.RowsLemmas.{rows_before, rows_behind, rows_around, somes_join, places_join, places_before, places_behind, places_around, one_place, rows_join, look_more, once_more, once_less, none_of_new, row_more}
+use Rattle.row_dir.proofs.PlainLemmas.{puts_row}
+use Rattle.row_dir.proofs.RowsLemmas.{rows_before, rows_behind, rows_around, somes_join, places_join, places_before, places_behind, places_around, rows_join, look_more, once_more, once_less, none_of_new, row_more}
 use Rattle.row_dir.proofs.FindLemmas.{some_both}
 use Rattle.row_dir.proofs.ChangeLemmas.{NotIn, only_page, are_split, slot_moved, slot_free_kept}
 use Rattle.row_dir.proofs.OpenLemmas.{none_somes}
@@ -153,27 +153,24 @@ module _ (old new : Pages) (bs : List RowPage) (n : ℕ) (ss ts : List (Option K
 
   pub replaced_there : PutsRow k dir (bs ++ page_of n (ss ++ Some k0 ∷ ts) ∷ cs) old new × (free_of new ≡ free_of old)
   replaced_there = (
-    record {
-      after = bs ++ page_of n (ss ++ Some k ∷ ts) ∷ cs;
-      spans = span n (52 + 40 * length ss) 40 ∷ span n 50 2 ∷ [];
-      moves = slot_moved old new bs n ss (Some k0) (Some k) ts cs a (field old a.page 50 2) is can to in_page at counted some_rows once_now;
-      directory = record {
-        finds = λ m. d.finds m ∙ ap (place_for m) (sym places_same);
-        rooms = d.rooms ∙ sym rooms_same;
-        full = d.full;
-        docs = d.docs;
-        once = d.once;
-        each_once = d.each_once;
-      };
-      shows = λ m.
-          let o = row_for m (rows_before bs ss ++ rows_behind ts cs) in
-          let less' = none_of_new k0.doc (rows_before bs ss ++ rows_behind ts cs) less.1 in
-          let none = none_of_new k.doc (rows_before bs ss ++ rows_behind ts cs) new_doc in
-          ap (row_for m) around' ∙ (row_more m (rows_before bs ss) k (rows_behind ts cs) none
-          ∙ (both_cond (k.doc == m) (Some k.row) (Some k0.row) o
-          ∙ ap (λ (x : Option Row). cond (k.doc == m) (Some k.row) x) (ap (λ (c : ℕ). cond (c == m) (Some k0.row) o) (sym its) ∙ sym (ap (row_for m) around ∙ row_more m (rows_before bs ss) k0 (rows_behind ts cs) less'))));
-      goes = λ is_new. absurd (clash (rows_before bs ss) (subst (IsNew k.doc) around is_new));
-    },
+    puts_row (bs ++ page_of n (ss ++ Some k0 ∷ ts) ∷ cs) (bs ++ page_of n (ss ++ Some k ∷ ts) ∷ cs) (span n (52 + 40 * length ss) 40 ∷ span n 50 2 ∷ []) old new
+        (slot_moved old new bs n ss (Some k0) (Some k) ts cs a (field old a.page 50 2) is can to in_page at counted some_rows once_now) k dir
+        (record {
+          finds = λ m. d.finds m ∙ ap (place_for m) (sym places_same);
+          rooms = d.rooms ∙ sym rooms_same;
+          full = d.full;
+          docs = d.docs;
+          once = d.once;
+          each_once = d.each_once;
+        })
+        (λ m.
+        let o = row_for m (rows_before bs ss ++ rows_behind ts cs) in
+        let less' = none_of_new k0.doc (rows_before bs ss ++ rows_behind ts cs) less.1 in
+        let none = none_of_new k.doc (rows_before bs ss ++ rows_behind ts cs) new_doc in
+        ap (row_for m) around' ∙ (row_more m (rows_before bs ss) k (rows_behind ts cs) none
+        ∙ (both_cond (k.doc == m) (Some k.row) (Some k0.row) o
+        ∙ ap (λ (x : Option Row). cond (k.doc == m) (Some k.row) x) (ap (λ (c : ℕ). cond (c == m) (Some k0.row) o) (sym its) ∙ sym (ap (row_for m) around ∙ row_more m (rows_before bs ss) k0 (rows_behind ts cs) less')))))
+        (λ is_new. absurd (clash (rows_before bs ss) (subst (IsNew k.doc) around is_new))),
     slot_free_kept old new bs n ss (Some k0) (Some k) ts cs a (field old a.page 50 2) is can to in_page at counted some_rows once_now,
   )
     where
@@ -231,25 +228,21 @@ opened_last old new rows dir dir' k doc place index d full absent its at last op
     notes.pages ∙ (ap (λ (es : List (ℕ × ℕ)). insert_entry nat_eq es n 407) d.rooms ∙ (insert_last rows n 407 out ∙ ap (λ (f : ℕ). rooms_of rows ++ (n, f) ∷ []) (sym free))) in
     let nil = append-nil (rows_of rows) in
     let nil' = append-nil (places_of rows) in
-    record {
-      after = rows ++ page ∷ [];
-      spans = opens.spans;
-      moves = opens.moves;
-      directory = record {
-        finds = λ m.
-            ap (option_map address_of) (notes.finds m) ∙ (map_cond address_of (nat_eq doc.0 m) place (get nat_eq dir.places m)
-            ∙ (ap (λ (o : Option Address). cond (nat_eq doc.0 m) (Some (address_of place)) o) (d.finds m ∙ ap (place_for m) (sym nil'))
-            ∙ (ap₂ (λ (x : ℕ) (y : Address). cond (x == m) (Some y) (place_for m (places_of rows ++ []))) (sym its) same
-            ∙ sym (ap (place_for m) places ∙ look_more k.doc m h (places_of rows) [] (ap (place_for k.doc) nil' ∙ none.1)))));
-        rooms = rooms ∙ sym (rooms_join rows (page ∷ []));
-        full =
-            (let t = taken_before (rooms_of rows) ((n, free_in (Some k ∷ replicate 407 None)) ∷ []) index (ap length (sym d.rooms) ∙ sym last) in
-            subst (λ es. AreFull (take dir'.full es)) (sym rooms) (subst (λ m. AreFull (take m (rooms_of rows ++ (n, free_in (Some k ∷ replicate 407 None)) ∷ []))) (sym notes.full) (subst AreFull (sym t) (subst AreFull d.rooms full))));
-        docs = ap numbers notes.docs ∙ (numbers_pushed dir.docs.items doc ∙ (ap (λ (ns : List ℕ). ns ++ doc.0 ∷ []) d.docs ∙ sym notes.keys));
-        once = notes.once;
-        each_once = notes.each_once;
-      };
-      shows = λ m.
-          ap (row_for m) all ∙ (row_more m (rows_of rows) k [] (ap (row_for k.doc) nil ∙ none.0) ∙ ap (λ (o : Option Row). cond (k.doc == m) (Some k.row) o) (ap (row_for m) nil));
-      goes = λ is_new. inr (record { page = n; full = subst AreFull d.rooms full; now = refl });
-    }
+    puts_row rows (rows ++ page ∷ []) opens.spans old new opens.moves k dir'
+    (record {
+      finds = λ m.
+          ap (option_map address_of) (notes.finds m) ∙ (map_cond address_of (nat_eq doc.0 m) place (get nat_eq dir.places m)
+          ∙ (ap (λ (o : Option Address). cond (nat_eq doc.0 m) (Some (address_of place)) o) (d.finds m ∙ ap (place_for m) (sym nil'))
+          ∙ (ap₂ (λ (x : ℕ) (y : Address). cond (x == m) (Some y) (place_for m (places_of rows ++ []))) (sym its) same
+          ∙ sym (ap (place_for m) places ∙ look_more k.doc m h (places_of rows) [] (ap (place_for k.doc) nil' ∙ none.1)))));
+      rooms = rooms ∙ sym (rooms_join rows (page ∷ []));
+      full =
+          (let t = taken_before (rooms_of rows) ((n, free_in (Some k ∷ replicate 407 None)) ∷ []) index (ap length (sym d.rooms) ∙ sym last) in
+          subst (λ es. AreFull (take dir'.full es)) (sym rooms) (subst (λ m. AreFull (take m (rooms_of rows ++ (n, free_in (Some k ∷ replicate 407 None)) ∷ []))) (sym notes.full) (subst AreFull (sym t) (subst AreFull d.rooms full))));
+      docs = ap numbers notes.docs ∙ (numbers_pushed dir.docs.items doc ∙ (ap (λ (ns : List ℕ). ns ++ doc.0 ∷ []) d.docs ∙ sym notes.keys));
+      once = notes.once;
+      each_once = notes.each_once;
+    })
+    (λ m.
+    ap (row_for m) all ∙ (row_more m (rows_of rows) k [] (ap (row_for k.doc) nil ∙ none.0) ∙ ap (λ (o : Option Row). cond (k.doc == m) (Some k.row) o) (ap (row_for m) nil)))
+    (λ is_new. inr (record { page = n; full = subst AreFull d.rooms full; now = refl }))

@@ -1,17 +1,13 @@
 -- The rows of row pages, where one slot changes.
-use Rattle.std.proofs.Common.{◌≡◌, ◌≢◌, ◌⊎◌, inl, inr, ℕ, zero, suc, ◌+◌, ◌*◌, ◌<◌, ◌≤◌, ◌==◌, Bool, true, false, cond, List, [], ◌∷◌, ◌++◌, length, map, Option, Some, None, refl, sym, ap, ap₂, subst, lit≤, ◌∙◌, arith}
-use Rattle.std.proofs.lemmas.List.{length-append, append_assoc}
-use Rattle.std.proofs.lemmas.Bool.{cases_eq, cases_Bool, eqb-true, eq-eqb, ne_eqb}
+use Rattle.std.proofs.Common.{◌≡◌, ◌⊎◌, inl, inr, ℕ, ◌+◌, ◌*◌, ◌==◌, Bool, true, false, cond, List, [], ◌∷◌, ◌++◌, length, map, Option, Some, None, refl, sym, ap, ◌∙◌, arith}
+use Rattle.std.proofs.lemmas.List.{append_assoc}
+use Rattle.std.proofs.lemmas.Bool.{cases_Bool, eqb-true, eq-eqb, ne_eqb}
 use Rattle.std.specs.Map.{lookup}
 use Rattle.page_model.specs.Pages.{Address}
-use Rattle.page_model.specs.Spans.{Span, span, IsApartFromAll, ArePairwiseApart}
-use Rattle.page_model.specs.Lists.{node_span}
 use Rattle.undo_model.specs.Data.{Row}
-use Rattle.undo_model.specs.Logs.{node_of}
-use Rattle.undo_model.specs.Rows.{Keyed, RowPage, IsNew, AreOnce, somes, rows_of, row_for, row_nodes}
-use Rattle.store_parts.specs.Stored.{row_pages}
+use Rattle.undo_model.specs.Rows.{Keyed, RowPage, IsNew, AreOnce, somes, rows_of, row_for}
 use Rattle.row_dir.specs.RowPages.{page_of}
-use Rattle.row_dir.specs.Directory.{free_in, rooms_of, places_in, places_of, place_for}
+use Rattle.row_dir.specs.Directory.{places_in, places_of}
 
 -- ---- the page in the midst of others
 

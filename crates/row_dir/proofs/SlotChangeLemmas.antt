@@ -1,5 +1,5 @@
 -- One slot of a row page changed: what stands, and what stays.
-use Rattle.std.proofs.Common.{◌≡◌, ◌≢◌, inl, inr, ℕ, ◌+◌, ◌*◌, ◌<◌, ◌≤◌, List, [], ◌∷◌, ◌++◌, length, Option, Some, None, refl, sym, ap, subst, lit≤, ◌∙◌, arith}
+use Rattle.std.proofs.Common.{◌≡◌, inr, ℕ, ◌+◌, ◌*◌, ◌<◌, ◌≤◌, List, [], ◌∷◌, ◌++◌, length, Option, Some, None, refl, sym, ap, ◌∙◌, arith}
 use Rattle.page_model.specs.Pages.{Pages, Address, field}
 use Rattle.page_model.specs.Spans.{Span, span, SameOutside, SetsField, IsApartFromAll}
 use Rattle.page_model.specs.Steps.{Told}

@@ -1,5 +1,5 @@
 -- A row in bytes that were read, or are to be written, is the row in its slot.
-use Rattle.std.proofs.Common.{◌≡◌, ℕ, ◌+◌, ◌<◌, ◌≤◌, List, [], ◌∷◌, length, Option, Some, None, IfSome, refl, sym, ap, ap₂, subst, lit≤, ◌∙◌, arith}
+use Rattle.std.proofs.Common.{◌≡◌, ℕ, ◌+◌, ◌<◌, ◌≤◌, List, [], ◌∷◌, length, Option, Some, None, IfSome, refl, sym, subst, lit≤, ◌∙◌, arith}
 use Rattle.std.specs.Option.{option_map}
 use Rattle.page_model.specs.Pages.{Pages, AreWhole, bytes_at, field, written, Address}
 use Rattle.page_model.specs.Spans.{span, SameOutside, SetsField}
@@ -8,7 +8,6 @@ use Rattle.page_model.proofs.FrameLemmas.{written_outside}
 use Rattle.lob_pages.proofs.ByteLemmas.{in_written, in_read, then_number, same_still}
 use Rattle.lob_pages.proofs.EntryLemmas.{if_told, told_written}
 use Rattle.store_data.specs.Store.{RowState, absent, live, deleted}
-use Rattle.undo_model.specs.Data.{Row, Reference}
 use Rattle.undo_model.specs.Bytes.{state_code}
 use Rattle.undo_model.specs.Rows.{Keyed, IsPresent, IsRowAt, IsSlot}
 use Rattle.std.proofs.Common.{Result, Err, IfErr}

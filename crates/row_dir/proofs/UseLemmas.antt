@@ -1,7 +1,7 @@
 -- What the calls on row pages have used, one after another.
-use Rattle.std.proofs.Common.{ℕ, ◌+◌, ◌≤◌, List, [], ◌∷◌, ◌++◌, arith}
+use Rattle.std.proofs.Common.{ℕ, List, [], ◌∷◌, arith}
 use Rattle.page_model.specs.Steps.{PageState, IsWithin, Uses}
-use Rattle.page_model.proofs.StepLemmas.{within_left, within_right, within_one, within_two, uses_within, uses_unnamed, uses_at_most, uses_nowhere, uses_more}
+use Rattle.page_model.proofs.StepLemmas.{within_right, within_one, within_two, uses_within, uses_unnamed, uses_at_most, uses_more}
 
 begin : {T : Type 0} {state : T → PageState} {stays : T → T → Type 0} (named n : List ℕ) (k b : ℕ) (s t : T) → IsWithin n named → Uses state stays n k b s t → Uses state stays named k b s t
 begin named n k b s t within u = uses_more n named k k b b s t u within (omega arith) (omega arith)

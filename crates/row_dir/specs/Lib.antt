@@ -2,6 +2,9 @@ pub mod Slots
 pub mod Directory
 pub mod Notes
 pub mod RowPages
+pub mod Plain
 pub mod Puts
 pub mod Removes
+pub mod Stores
+pub mod Honest
 pub mod Loads

@@ -7,7 +7,7 @@
 --     EntersOnly      only rows of that page were entered
 --     IsOddField      a fault names a field of the page, with what stands there
 --     FailsBare, HasDirCause, IsHonestly      of the errors
-use Rattle.std.specs.Prelude.{◌≡◌, ◌⊎◌, ℕ, ◌+◌, ◌<◌, ◌≤◌, nat_eq, cond, List, [], ◌∷◌, ◌++◌, Option, Some, None, IfSome, Result, Ok, Err, ⊤, IfErr, vec_len, vec_capacity}
+use Rattle.std.specs.Prelude.{◌≡◌, ◌⊎◌, ℕ, ◌+◌, ◌≤◌, nat_eq, cond, List, [], ◌∷◌, ◌++◌, Option, Some, None, IfSome, Result, Ok, Err, ⊤, vec_len, vec_capacity}
 use Rattle.std.specs.Option.{option_map}
 use Rattle.std.specs.Map.{lookup}
 use Rattle.indexmap.specs.IndexMap.{get, keys, spare, IsUnique}
@@ -16,9 +16,8 @@ use Rattle.engine_base.specs.Addresses.{address_of}
 use Rattle.engine_base.specs.Faults.{Oddity, IsHonest, Rose}
 use Rattle.engine_base.specs.declared.addr.Addr.{Addr}
 use Rattle.engine_base.specs.declared.ids.DocId.{DocId}
-use Rattle.engine_base.specs.declared.fault.Fault.{Fault}
 use Rattle.engine_base.specs.declared.fault.Fault.TheVariants.{Device}
-use Rattle.undo_model.specs.Rows.{Keyed, RowPage, IsRowPage, AreOnce, rows_of, max_slots, first_slot}
+use Rattle.undo_model.specs.Rows.{Keyed, RowPage, IsRowPage, AreOnce, rows_of, first_slot}
 use Rattle.row_dir.specs.declared.error.DirError.{DirError}
 use Rattle.row_dir.specs.declared.error.DirError.TheVariants.{Fault as Failed, Memory}
 use Rattle.row_dir.specs.declared.dir.RowDir.{RowDir}

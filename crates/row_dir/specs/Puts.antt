@@ -4,13 +4,18 @@
 --     PutsRow k dir rows old new      the row stands, and all other rows as before; the directory
 --         is that of the row pages
 use Rattle.std.specs.Prelude.{◌≡◌, ◌⊎◌, ℕ, ◌==◌, cond, List, [], ◌∷◌, ◌++◌, replicate, Option, Some, None}
+use Rattle.std.specs.Ordering.{nat_cmp}
+use Rattle.std.specs.FinMap.Entries.{put}
 use Rattle.page_model.specs.Pages.{Pages}
 use Rattle.page_model.specs.Spans.{Span}
+use Rattle.store_data.specs.Store.{Row}
 use Rattle.undo_model.specs.Rows.{Keyed, RowPage, IsNew, rows_of, row_for}
+use Rattle.store_parts.specs.Shows.{row_of}
 use Rattle.store_parts.specs.Standing.{MovesRows}
 use Rattle.row_dir.specs.declared.dir.RowDir.{RowDir}
 use Rattle.row_dir.specs.RowPages.{page_of}
 use Rattle.row_dir.specs.Directory.{free_in, rooms_of, AreFull, IsDirectory}
+use Rattle.row_dir.specs.Plain.{AreRows, ChangesTo}
 
 pub record FillsFirst (k : Keyed) (rows after : List RowPage) : Type 0 where
   pub before : List RowPage
@@ -35,5 +40,8 @@ pub record PutsRow (k : Keyed) (dir : RowDir) (rows : List RowPage) (old new : P
   pub directory : IsDirectory dir after
   pub shows : (d : ℕ) → row_for d (rows_of after)
       ≡ cond (k.doc == d) (Some k.row) (row_for d (rows_of rows))
+  -- so are the plain rows, and what else a store has is kept
+  pub changes : (plain : List (ℕ × Row)) → AreRows plain rows
+      → ChangesTo (put nat_cmp k.doc (row_of k.row) plain) rows after old new
   -- a new document's
   pub goes : IsNew k.doc (rows_of rows) → FillsFirst k rows after ⊎ OpensLast k rows after

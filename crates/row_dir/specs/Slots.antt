@@ -4,12 +4,12 @@
 --     IsSoundRow      a row that a slot can hold
 --     SetsSlot      the row was written there, and no other byte
 --     IsOddState, IsOddRow      a fault names the state of the slot there, or its document
-use Rattle.std.specs.Prelude.{◌≡◌, ◌≢◌, ◌⊎◌, ℕ, ◌+◌, ◌<◌, ◌≤◌, ◌^◌, List, [], ◌∷◌, Option, Some, None, IfSome}
+use Rattle.std.specs.Prelude.{◌≡◌, ◌≢◌, ◌⊎◌, ℕ, ◌+◌, ◌<◌, ◌≤◌, ◌^◌, [], ◌∷◌, Option, IfSome}
 use Rattle.std.specs.Option.{option_map}
 use Rattle.page_model.specs.Pages.{Pages, Address, field, page_bytes}
 use Rattle.page_model.specs.Spans.{Span, span, SameOutside}
 use Rattle.engine_base.specs.Faults.{Oddity}
-use Rattle.undo_model.specs.Rows.{Keyed, IsPresent, IsRowAt, IsSlot, slot_size}
+use Rattle.undo_model.specs.Rows.{Keyed, IsPresent, IsRowAt, slot_size}
 use Rattle.undo_records.specs.Records.{row_of, state_of}
 use Rattle.undo_records.specs.declared.record_type.Row.{Row}
 

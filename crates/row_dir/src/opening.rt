@@ -1,15 +1,16 @@
 // A row page that begins, and one behind the others.
-ghost use Rattle.std.specs.Prelude.{◌≡◌, ◌+◌, ◌*◌, ◌≤◌, ◌<◌, List, [], ◌∷◌, length, replicate, Some, IfOk, OnOk};
+ghost use Rattle.std.specs.Prelude.{◌≡◌, ◌+◌, ◌*◌, ◌≤◌, ◌<◌, List, [], ◌∷◌, length, replicate, Some, IfOk, IfErr, OnOk};
 ghost use Rattle.page_model.specs.Pages.{Pages, byte, page_bytes, null_page};
 ghost use Rattle.page_model.specs.Tables.{HasFields, header_fields, field_at};
 ghost use Rattle.page_model.specs.Steps.{MayUse, Uses, Told, Becomes, write_head};
-ghost use Rattle.engine_base.specs.Faults.{HasCause, FailsPlainly};
+ghost use Rattle.engine_base.specs.Faults.{HasCause, FailsPlainly, IsHonest};
 ghost use Rattle.page_space.specs.Map.{IsSize, free_of};
 ghost use Rattle.undo_model.specs.Rows.{RowPage, IfRows, row_base, row_type, row_for, rows_of, slot_size};
 ghost use Rattle.row_dir.specs.Slots.{keyed_of, IsSoundRow};
 ghost use Rattle.row_dir.specs.RowPages.{CanChange, StartsWith, OpensPage};
 ghost use Rattle.row_dir.specs.declared.layout.TheConstants.{COUNT, FIRST_SLOT};
 ghost use Rattle.std.specs.Prelude.{ℕ, None};
+ghost use Rattle.row_dir.specs.Honest.{IsOddOpen};
 
 use crate::layout::{COUNT, FIRST_SLOT, NODE};
 use crate::slots::write_slot;
@@ -73,6 +74,7 @@ pub(crate) fn open_page<P: Pages>(p: &mut P, space: &mut Space, row: &Row) -> Re
         OpensPage (keyed_of row.now) rows page.0 pages new × (space.new ≤ free_of new)))) }
     ensures there { IfOk result (λ page. page.0 < (P.state p.old).count) }
     ensures ok { OnOk result (space.new + 1 ≡ space.old) }
+    ensures honest { IfErr result (IsHonest (IsOddOpen (P.state p.old))) }
     ensures never { IfRows (P.state p.old).told row_base (λ pages rows. CanChange rows pages
         → space.old ≤ free_of pages → FailsPlainly result) }
     ensures cause { HasCause (P.state p.old).faults (P.state p.new).faults result }

@@ -1,13 +1,14 @@
 // A row put into a slot.
-ghost use Rattle.std.specs.Prelude.{◌≡◌, ◌+◌, ◌*◌, ◌≤◌, ◌<◌, ℕ, nat_eq, List, [], ◌∷◌, Some, None, OnOk};
+ghost use Rattle.std.specs.Prelude.{◌≡◌, ◌+◌, ◌*◌, ◌≤◌, ◌<◌, ℕ, nat_eq, List, [], ◌∷◌, Some, None, IfErr, OnOk};
 ghost use Rattle.indexmap.specs.IndexMap.{get};
 ghost use Rattle.page_model.specs.Pages.{Pages};
 ghost use Rattle.page_model.specs.Steps.{MayUse, Uses, Becomes, write_head};
-ghost use Rattle.engine_base.specs.Faults.{HasCause, FailsPlainly};
+ghost use Rattle.engine_base.specs.Faults.{HasCause, FailsPlainly, IsHonest};
 ghost use Rattle.page_space.specs.Map.{IsSize, free_of};
 ghost use Rattle.undo_model.specs.Rows.{RowPage, IfRows, row_base, slot_size};
 ghost use Rattle.row_dir.specs.Slots.{keyed_of, IsSoundRow};
 ghost use Rattle.row_dir.specs.RowPages.{CanChange};
+ghost use Rattle.row_dir.specs.Honest.{IsOddOpen, IsOddFill, IsOddPut};
 
 use crate::RowDir;
 use crate::layout::{FIRST_SLOT, MAX_SLOTS};
@@ -40,6 +41,7 @@ impl RowDir {
             PutsRow (keyed_of row.now) self.new rows pages new
             × (free_of new ≡ free_of pages)))) }
         ensures below { IsBelow (P.state p.old).count self.new }
+        ensures honest { IfErr result (IsHonest (IsOddFill self.old (P.state p.old).told)) }
         ensures never { IfRows (P.state p.old).told row_base
             (λ pages rows. IsDirectory self.old rows → CanChange rows pages
             → IsFirstOpen self.old.pages.entries open.index open.page.0 open.free
@@ -74,6 +76,7 @@ impl RowDir {
             PutsRow (keyed_of row.now) self.new rows pages new × (space.new ≤ free_of new)))) }
         ensures below { IsBelow (P.state p.old).count self.new }
         ensures ok { OnOk result (space.new + 1 ≡ space.old) }
+        ensures honest { IfErr result (IsHonest (IsOddOpen (P.state p.old))) }
         ensures never { IfRows (P.state p.old).told row_base
             (λ pages rows. CanChange rows pages → space.old ≤ free_of pages
             → FailsPlainly result) }
@@ -108,6 +111,11 @@ impl RowDir {
             PutsRow (keyed_of row.now) self.new rows pages new × (space.new ≤ free_of new)))) }
         ensures below { IsBelow (P.state p.old).count self.new }
         ensures takes { OnOk result (space.old ≤ space.new + 1) }
+
+        // Strange names a field that the call read, as IsOddPut says; of a document that has a row
+        // it is told of nothing.
+        ensures honest { IfErr result
+            (IsHonest (IsOddPut self.old row.now.doc.0 (P.state p.old))) }
         ensures never { IfRows (P.state p.old).told row_base
             (λ pages rows. IsDirectory self.old rows → CanChange rows pages
             → space.old ≤ free_of pages → FailsPlainly result) }

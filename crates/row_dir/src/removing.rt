@@ -1,13 +1,14 @@
 // A row taken out of its slot, and its page given back where it has no other.
-ghost use Rattle.std.specs.Prelude.{◌≡◌, ◌≢◌, ◌+◌, ◌*◌, ◌≤◌, ◌<◌, ℕ, nat_eq, List, [], ◌∷◌, ◌++◌, Some, None, OnOk, IsOk, IsSome};
+ghost use Rattle.std.specs.Prelude.{◌≡◌, ◌≢◌, ◌+◌, ◌*◌, ◌≤◌, ◌<◌, ℕ, nat_eq, List, [], ◌∷◌, ◌++◌, Some, None, IfErr, OnOk, IsOk, IsSome};
 ghost use Rattle.indexmap.specs.IndexMap.{get};
 ghost use Rattle.page_model.specs.Pages.{Pages};
 ghost use Rattle.page_model.specs.Steps.{MayUse, Uses, Becomes, write_head};
-ghost use Rattle.engine_base.specs.Faults.{HasCause, FailsPlainly};
+ghost use Rattle.engine_base.specs.Faults.{HasCause, FailsPlainly, IsHonest};
 ghost use Rattle.page_space.specs.Map.{IsSize, free_of};
 ghost use Rattle.undo_model.specs.Rows.{RowPage, IsRows, IfRows, row_base, max_slots};
 ghost use Rattle.row_dir.specs.RowPages.{CanChange};
 ghost use Rattle.row_dir.specs.Removes.{DropsPage};
+ghost use Rattle.row_dir.specs.Honest.{IsOddDrop, IsOddRemove};
 
 use crate::RowDir;
 use crate::layout::{MAX_SLOTS, NODE};
@@ -27,6 +28,7 @@ fn drop_page<P: Pages>(p: &mut P, space: &mut Space, page: PageNo) -> Result<(),
         → OnOk result (Becomes (P.state p.new).told (λ new. DropsPage before q behind pages new
         × (free_of new ≡ free_of pages + 1))) }
     ensures reserved { space.new ≡ space.old }
+    ensures honest { IfErr result (IsHonest (IsOddDrop page.0 (P.state p.old))) }
     ensures never { (pages : Pages) (before behind : List RowPage) (q : RowPage)
         → (P.state p.old).told ≡ Some pages → IsRows pages row_base (before ++ q ∷ behind)
         → CanChange (before ++ q ∷ behind) pages → q.page ≡ page.0 → FailsPlainly result }
@@ -106,6 +108,7 @@ impl RowDir {
             RemovesRow doc.0 self.new rows pages new × (free_of new ≡ free_of pages + 1)))) }
         ensures below { IsBelow (P.state p.old).count self.new }
         ensures reserved { space.new ≡ space.old }
+        ensures honest { IfErr result (IsHonest (IsOddDrop place.page.0 (P.state p.old))) }
         ensures never { IfRows (P.state p.old).told row_base
             (λ pages rows. IsDirectory self.old rows → CanChange rows pages
             → FailsPlainly result) }
@@ -140,6 +143,10 @@ impl RowDir {
             × (P.state p.new ≡ P.state p.old) × IsOk result }
         ensures below { IsBelow (P.state p.old).count self.new }
         ensures reserved { space.new ≡ space.old }
+
+        // Strange names a field that the call read, as IsOddRemove says; of a document whose page
+        // has another row it is told of nothing.
+        ensures honest { IfErr result (IsHonest (IsOddRemove self.old doc.0 (P.state p.old))) }
         ensures never { IfRows (P.state p.old).told row_base
             (λ pages rows. IsDirectory self.old rows → CanChange rows pages
             → FailsPlainly result) }

@@ -2,12 +2,13 @@
 ghost use Rattle.std.specs.Prelude.{◌≡◌, ◌+◌, ◌*◌, ◌≤◌, ◌<◌, List, [], ◌∷◌, length, Option, Some, None, IfOk, IfErr, OnOk};
 ghost use Rattle.page_model.specs.Pages.{Pages, page_bytes};
 ghost use Rattle.page_model.specs.Steps.{MayUse, Uses, Told, write_head};
-ghost use Rattle.engine_base.specs.Faults.{HasCause, FailsPlainly};
+ghost use Rattle.engine_base.specs.Faults.{HasCause, FailsPlainly, IsHonest};
 ghost use Rattle.engine_base.specs.Addresses.{address_of};
 ghost use Rattle.undo_model.specs.Rows.{Keyed, AreSlots, first_slot, slot_size, max_slots};
 ghost use Rattle.row_dir.specs.Slots.{keyed_of, FitsSlot, IsSoundRow};
 ghost use Rattle.row_dir.specs.Directory.{free_in};
 ghost use Rattle.row_dir.specs.RowPages.{SetsSlotTo, IsFirstFree};
+ghost use Rattle.row_dir.specs.Honest.{IsNoSlot};
 
 use crate::layout::{COUNT, FIRST_SLOT, SLOT_BYTES, SLOTS_END};
 use crate::slots::write_slot;
@@ -24,6 +25,9 @@ pub(crate) fn free_slot<P: Pages>(p: &mut P, page: PageNo) -> Result<u16, Fault>
     ensures never { (pages : Pages) (slots : List (Option Keyed)) → (P.state p.old).told ≡ Some pages
         → AreSlots pages page.0 first_slot slots → length slots ≡ max_slots
         → 1 ≤ free_in slots → FailsPlainly result }
+
+    // Strange names the count of rows, where no slot is free.
+    ensures honest { IfErr result (IsHonest (IsNoSlot (P.state p.old).told page.0)) }
     ensures place { IfOk result (λ at. (first_slot ≤ at) × (at + slot_size ≤ page_bytes)) }
     ensures cause { HasCause (P.state p.old).faults (P.state p.new).faults result }
     ensures told { (P.state p.new).told ≡ (P.state p.old).told }

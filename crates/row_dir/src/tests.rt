@@ -181,6 +181,40 @@ fn rows_take_the_first_free_slot(rt: HostRuntime) -> Result<(), Fail> {
     Ok(())
 }
 
+// Document 9 as transaction 7 left it: live, with its record in page 5 at 107, and with a LOB of
+// 20,022 bytes in page 3, version 2.
+const NINE: Row = Row {
+    doc: DocId(9),
+    state: RowState::Live,
+    trx: TrxId(7),
+    roll: RollPtr(0x0005_006b),
+    lob: LobRef {
+        space: 0,
+        page: PageNo(3),
+        version: LobVersion(2),
+        length: 20_022,
+    },
+};
+
+#[test]
+#[tactic(auto, using(crate::proofs::TestLemmas::ample))]
+fn a_row_has_these_bytes(rt: HostRuntime) -> Result<(), Fail> {
+    let mut p = MemPages::new(rt.alloc(), 16)?;
+    let mut space = Space::new();
+    let mut dir = RowDir::new(rt.alloc());
+    begin(&mut p, &mut space)?;
+    put(&mut p, &mut space, &mut dir, &NINE)?;
+    let mut bytes = [0xee; 41];
+    assert!(rt; p.count() == 16);
+    p.read(FIRST, 52, &mut bytes).ok().ok_or("read")?;
+    let want = [
+        1, 0, 0, 0, 9, 0, 0, 0, 0, 0, 7, 0, 0, 0, 0, 5, 0, 107, 0, 0, 0, 0, 0, 0, 0, 3, 0, 0, 0, 2,
+        0, 0, 0, 0, 0, 0, 78, 54, 0, 0, 0,
+    ];
+    assert_eq!(rt; bytes, want);
+    Ok(())
+}
+
 // Three rows, of which the second is deleted and the third is taken out again.
 fn three_rows(p: &mut MemPages, space: &mut Space, dir: &mut RowDir) -> Result<(), Fail>
     requires below { IsBelow 16 dir.old }

@@ -1,7 +1,8 @@
-use Rattle.std.proofs.Common.{ℕ, ◌+◌, [], ◌∷◌, ◌≡◌, lit≤, ◌∙◌, arith}
+use Rattle.std.proofs.Common.{◌+◌, [], ◌∷◌, ◌≡◌, lit≤, ◌∙◌, arith}
 use Rattle.page_model.specs.Pages.{field}
 use Rattle.page_model.proofs.StepLemmas.{may_within, uses_within}
 use Rattle.file_lists.proofs.LinkLemmas.{at_told}
+use Rattle.row_dir.proofs.HonestLemmas.{none_more}
 use Rattle.row_dir.proofs.SlotChangeLemmas.{free_here, free_behind}
 use Rattle.row_dir.proofs.row_pages.free_slot.Goals as goal
 
@@ -30,6 +31,7 @@ slots-preserved g c =
       uses = uses_within g.P.Pages.stays_on (page ∷ []) (page ∷ []) 0 0 0 0 c.args.p.now c.slots.p c.read_field.new.p (λ n is. is) c.slots.invariant.uses c.read_field.ensures.uses;
       faults = (let a = c.slots.invariant.faults in let b = c.read_field.ensures.cause.later in omega (arith, a, b));
       low = (let a = c.slots.invariant.low in omega (arith, a));
+      seen = none_more _ _ page c.slots.at steps.0 c.in_ok-read_field.field-0 c.slots.invariant.told steps.1 c.slots.invariant.seen c.in_ok-read_field.ensures.value c.if-branch-eq0.false;
       steps = (steps.0 + 1, (let e = steps.1 in omega (arith, e)));
       passed = λ pages slots is are many.
           let i = c.slots.invariant.passed pages slots is are many in

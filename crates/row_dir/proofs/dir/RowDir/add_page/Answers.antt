@@ -1,5 +1,4 @@
-use Rattle.std.proofs.Common.{refl, ◌∙◌}
-use Rattle.file_lists.proofs.LinkLemmas.{handed_on}
+use Rattle.std.proofs.Common.{refl}
 use Rattle.row_dir.specs.Slots.{keyed_of}
 use Rattle.engine_base.specs.declared.addr.Addr.{Addr}
 use Rattle.row_dir.proofs.ReplaceLemmas.{opened_last, no_row}

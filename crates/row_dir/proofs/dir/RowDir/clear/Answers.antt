@@ -1,4 +1,4 @@
-use Rattle.std.proofs.Common.{[], ◌∷◌, ◌-◌, None}
+use Rattle.std.proofs.Common.{◌-◌, None}
 use Rattle.page_model.proofs.StepLemmas.{told_step}
 use Rattle.engine_base.specs.Addresses.{address_of}
 use Rattle.row_dir.specs.RowPages.{SetsSlotTo}

@@ -6,7 +6,13 @@ use Rattle.engine_base.specs.declared.addr.Addr.{Addr}
 use Rattle.row_dir.specs.Slots.{keyed_of}
 use Rattle.row_dir.specs.RowPages.{SetsSlotTo}
 use Rattle.row_dir.proofs.PutLemmas.{filled_first, open_slots}
+use Rattle.lob_index.proofs.HonestLemmas.{honest_on}
+use Rattle.row_dir.proofs.HonestLemmas.{fill_odd}
 use Rattle.row_dir.proofs.dir.RowDir.fill.Goals as goal
+
+pub returns-in_err-at-clause-honest : goal.returns-in_err-at-clause-honest
+returns-in_err-at-clause-honest g c =
+    honest_on _ _ c.free_slot.result _ _ (fill_odd c.args.self.now (g.P.Pages.state c.args.p.now).told c.args.open.page.0 c.args.open.free c.requires.has c.requires.some) c.free_slot.ensures.honest c.in_err-at.was c.from_residual.ensures
 
 pub fill_slot-requires-clause-may : goal.fill_slot-requires-clause-may
 fill_slot-requires-clause-may g c =

@@ -1,4 +1,4 @@
-use Rattle.std.proofs.Common.{[], ◌∷◌, Some, sym, ap, ◌∙◌, arith}
+use Rattle.std.proofs.Common.{[], Some, sym, ap, ◌∙◌}
 use Rattle.page_model.proofs.StepLemmas.{uses_unnamed}
 use Rattle.file_lists.proofs.LinkLemmas.{handed_on, at_told}
 use Rattle.engine_base.specs.Addresses.{address_of}

@@ -1,4 +1,4 @@
-use Rattle.std.proofs.Common.{ℕ, ◌≡◌, ◌<◌, [], ◌∷◌, ◌++◌, Option, IfSome, refl, sym, ap, subst, lit≤, ◌∙◌, arith}
+use Rattle.std.proofs.Common.{◌≡◌, [], ◌∷◌, ◌++◌, Option, IfSome, refl, sym, ap, subst, lit≤, ◌∙◌, arith}
 use Rattle.indexmap.specs.IndexMap.{spare}
 use Rattle.page_model.specs.Pages.{Pages, field}
 use Rattle.page_model.proofs.StepLemmas.{may_within, uses_within}

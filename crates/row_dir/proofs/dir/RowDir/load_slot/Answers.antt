@@ -1,4 +1,4 @@
-use Rattle.std.proofs.Common.{[], ◌∷◌, Option, Some, IfSome, refl, sym, subst}
+use Rattle.std.proofs.Common.{Option, Some, IfSome, refl, subst}
 use Rattle.engine_base.specs.Addresses.{address_of}
 use Rattle.file_lists.proofs.LinkLemmas.{at_told}
 use Rattle.undo_model.specs.Rows.{IsSlot}

@@ -1,4 +1,4 @@
-use Rattle.std.proofs.Common.{ℕ, [], ◌∷◌, sym, subst, lit≤, ◌∙◌, arith}
+use Rattle.std.proofs.Common.{ℕ, [], ◌∷◌, subst, lit≤, ◌∙◌, arith}
 use Rattle.page_model.proofs.StepLemmas.{may_within, uses_within}
 use Rattle.file_lists.proofs.LinkLemmas.{handed_on}
 use Rattle.row_dir.specs.Directory.{IsBelow}

@@ -1,4 +1,4 @@
-use Rattle.std.proofs.Common.{ℕ, nat_eq, refl, ap, ◌∙◌, arith}
+use Rattle.std.proofs.Common.{nat_eq, refl, ap, ◌∙◌, arith}
 use Rattle.std.specs.Map.{keys_of}
 use Rattle.indexmap.proofs.CallerLemmas.{insert_entry-new}
 use Rattle.row_dir.proofs.RoomLemmas.{ok_then, pushed, keys_pushed}

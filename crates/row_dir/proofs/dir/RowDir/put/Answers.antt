@@ -1,4 +1,4 @@
-use Rattle.std.proofs.Common.{[], ◌∷◌, lit≤, ◌∙◌, arith}
+use Rattle.std.proofs.Common.{[], ◌∷◌, lit≤, arith}
 use Rattle.indexmap.proofs.MapLemmas.{OnOk-map}
 use Rattle.page_model.proofs.StepLemmas.{told_step, uses_unnamed, uses_at_most}
 use Rattle.engine_base.specs.Addresses.{address_of}
