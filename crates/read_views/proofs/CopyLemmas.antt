@@ -5,11 +5,8 @@ use Rattle.store_data.specs.Pieces.{Part}
 use Rattle.read_model.specs.Buffer.{data_at, cut, parts_in, left_behind}
 use Rattle.engine_base.specs.declared.ids.PageNo.{PageNo}
 use Rattle.read_views.specs.Flights.{numbers_of}
-use Rattle.read_views.specs.Steps.{piece_start, piece_room, part_of}
+use Rattle.read_views.specs.Steps.{piece_start, piece_room, part_of, with_bytes}
 use Rattle.read_views.proofs.PieceLemmas.{Ends, take_ends, drop_ends}
-
-abbrev pub filled : ℕ → List ℕ → List ℕ → List ℕ
-filled start bytes buf = take start buf ++ (bytes ++ drop (length bytes) (drop start buf))
 
 -- as many bytes as the pieces of so many pages take, of which the first takes `size`
 abbrev span_of : ℕ → ℕ → ℕ
@@ -92,7 +89,7 @@ fills_ends k bytes buf (inr last) =
 
 pub copied_more : (lob k page : ℕ) (ps bytes buf new : List ℕ) → length ps ≡ k
     → piece_start k + length bytes ≤ length buf → Fills k bytes buf
-    → new ≡ filled (piece_start k) bytes buf
+    → new ≡ with_bytes (piece_start k) bytes buf
     → parts_in lob (ps ++ page ∷ []) new ≡ parts_in lob ps buf ++ part_of lob page bytes ∷ []
 copied_more lob k page ps bytes buf new long within fills is =
     let start : ℕ = piece_start k in

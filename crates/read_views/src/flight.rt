@@ -1,5 +1,5 @@
 //! A read under way.
-ghost use Rattle.std.specs.Prelude.{◌≡◌, ℕ, [], length, Some, None, IfSome};
+ghost use Rattle.std.specs.Prelude.{◌≡◌, ◌≢◌, ℕ, [], length, Some, None, IfSome};
 ghost use Rattle.store_model.specs.History.{absent_row};
 ghost use Rattle.store_model.specs.Lobs.{joined};
 ghost use Rattle.undo_model.specs.Data.{led};
@@ -7,6 +7,7 @@ ghost use Rattle.engine_base.specs.Addresses.{address_of};
 ghost use Rattle.read_model.specs.Flight.{lent, onward};
 ghost use Rattle.read_model.specs.Steps.{judging, moved, hand_on, put};
 ghost use Rattle.read_model.specs.Buffer.{left_in};
+ghost use Rattle.read_views.specs.Steps.{KeepsLent};
 ghost use Rattle.read_views.specs.Flights.{flight_of, phase_of, record_in, handed_to, pages_copied, row_read, row_in, with_put, HasCopied, KeepsPlaces};
 
 use crate::pieces::put_back;
@@ -62,7 +63,8 @@ impl Flight {
     pub fn start(alloc: Global, view: Option<usize>, doc: DocId) -> Flight
         ensures read { flight_of result ≡ judging absent_row }
         ensures row { result.row ≡ None }
-        ensures of { (result.view ≡ view) × (result.doc ≡ doc) }
+        ensures of { (result.view ≡ view) × (result.doc ≡ doc) × (result.phase ≡ Phase.Seek) }
+        ensures none { (result.piece ≡ 0) × (result.head ≡ None) × (result.node ≡ None) }
     {
         Flight {
             view,
@@ -90,9 +92,10 @@ impl Flight {
     pub fn lend(&mut self, buffer: Vec<u8>, from: Vec<PageNo>)
         ensures read { flight_of self.new ≡ lent (flight_of self.old) }
         ensures buffer { (self.new.buffer ≡ buffer) × (self.new.from ≡ from) }
-        ensures first { (self.new.piece ≡ 0) × (self.new.head ≡ None) }
+        ensures first { (self.new.piece ≡ 0) × (self.new.head ≡ None) × (self.new.node ≡ None) }
+        ensures phase { self.new.phase ≡ Phase.Pieces }
         ensures of { (self.new.view ≡ self.old.view) × (self.new.doc ≡ self.old.doc)
-            × (self.new.row ≡ self.old.row) }
+            × (self.new.row ≡ self.old.row) × (self.new.cursor ≡ self.old.cursor) }
     {
         self.buffer = buffer;
         self.from = from;
@@ -110,6 +113,7 @@ impl Flight {
         ensures read { IfSome (led at.0) (λ a. flight_of self.new ≡ handed_to self.old.doc.0 a
             (record_in rec.now) (flight_of self.old)) }
         ensures nowhere { led at.0 ≡ None → flight_of self.new ≡ flight_of self.old }
+        ensures row { self.old.phase ≢ Phase.Seek → self.new.row ≡ self.old.row }
         ensures of { KeepsPlaces self.old self.new }
     {
         let Some(place) = place_of(at) else {
@@ -124,6 +128,7 @@ impl Flight {
     fn step_back(&mut self, place: Addr, rec: &UndoRecord)
         ensures read { flight_of self.new ≡ hand_on (address_of place) (record_in rec.now)
             (flight_of self.old) }
+        ensures row { self.old.phase ≢ Phase.Seek → self.new.row ≡ self.old.row }
         ensures of { KeepsPlaces self.old self.new }
     {
         match self.phase {
@@ -155,6 +160,7 @@ impl Flight {
         requires { self.old.phase ≡ Phase.Unpatch }
         ensures read { flight_of self.new ≡ hand_on (address_of place) (record_in rec.now)
             (flight_of self.old) }
+        ensures row { self.new.row ≡ self.old.row }
         ensures of { KeepsPlaces self.old self.new }
     {
         if leads(self.cursor, place) {
@@ -166,6 +172,7 @@ impl Flight {
     pub fn put(&mut self, rec: &UndoRecord)
         requires { self.old.phase ≡ Phase.Unpatch }
         ensures read { flight_of self.new ≡ put (record_in rec.now) (flight_of self.old) }
+        ensures row { self.new.row ≡ self.old.row }
         ensures of { KeepsPlaces self.old self.new }
     {
         self.cursor = onward(&self.row, &rec.before);
@@ -194,7 +201,9 @@ impl Flight {
     pub fn moved(&mut self, node: Addr, head: Addr)
         ensures read { flight_of self.new ≡ moved (address_of node) (address_of head)
             (flight_of self.old) }
-        ensures of { KeepsPlaces self.old self.new }
+        ensures row { (self.new.row ≡ self.old.row) × (self.new.phase ≡ self.old.phase)
+            × (self.new.cursor ≡ self.old.cursor) }
+        ensures of { KeepsLent self.old self.new }
     {
         if self.node == Some(node) {
             self.node = Some(head);

@@ -7,8 +7,8 @@ use Rattle.read_model.specs.Buffer.{parts_in}
 use Rattle.read_model.specs.Flight.{Flight as Read}
 use Rattle.read_views.specs.declared.flight.Phase.{Phase}
 use Rattle.read_views.specs.Flights.{numbers_of, flight_of, row_read, copied_in}
-use Rattle.read_views.specs.Steps.{piece_start, part_of}
-use Rattle.read_views.proofs.CopyLemmas.{filled, copied_more, pages_more, pages_long}
+use Rattle.read_views.specs.Steps.{piece_start, part_of, with_bytes}
+use Rattle.read_views.proofs.CopyLemmas.{copied_more, pages_more, pages_long}
 use Rattle.read_views.proofs.flight.Flight.copy.Goals as goal
 
 pub returns-clause-read : goal.returns-clause-read
@@ -19,19 +19,19 @@ returns-clause-read c =
     let old : List ℕ = c.args.self.now.buffer.items in
     let new : List ℕ = c.put_bytes.new.buffer in
     let pages : List ℕ = take k (numbers_of from) in
-    let put : new ≡ filled (piece_start k) c.args.bytes.now old =
+    let put : new ≡ with_bytes (piece_start k) c.args.bytes.now old =
     c.put_bytes.ensures
-    ∙ ap (λ n. filled n c.args.bytes.now c.as_mut_slice.result.now) c.start_of-start.ensures
-    ∙ ap (filled (piece_start k) c.args.bytes.now) c.as_mut_slice.ensures.value in
+    ∙ ap (λ n. with_bytes n c.args.bytes.now c.as_mut_slice.result.now) c.start_of-start.ensures
+    ∙ ap (with_bytes (piece_start k) c.args.bytes.now) c.as_mut_slice.ensures.value in
     let written : (with_items c.args.self.now.buffer new).items ≡ new =
     with_items_is c.args.self.now.buffer new
     (c.put_bytes.auto.buffer ∙ c.as_mut_slice.ensures.len) in
     let more : take (k + 1) (numbers_of (with_item c.args.self.now.from k c.args.page).items)
-    ≡ pages ++ c.args.page.0 ∷ [] = pages_more k from c.args.page c.requires.piece in
+    ≡ pages ++ c.args.page.0 ∷ [] = pages_more k from c.args.page c.requires.place.piece in
     let parts : parts_in lob (pages ++ c.args.page.0 ∷ []) new
     ≡ parts_in lob pages old ++ part_of lob c.args.page.0 c.args.bytes.now ∷ [] =
     copied_more lob k c.args.page.0 pages c.args.bytes.now old new
-    (pages_long k from c.requires.piece) c.requires.room c.requires.fills put in
+    (pages_long k from c.requires.place.piece) c.requires.place.room c.requires.place.fills put in
     let copied = ap (parts_in lob (take (k + 1)
     (numbers_of (with_item c.args.self.now.from k c.args.page).items))) written
     ∙ ap (λ (l : List ℕ). parts_in lob l new) more ∙ parts in
