@@ -2,4 +2,11 @@ pub mod RecordLemmas
 pub mod NextLemmas
 pub mod WalkLemmas
 pub mod SeekLemmas
+pub mod RowLemmas
+pub mod LentLemmas
+pub mod SearchLemmas
+pub mod StepLemmas
+pub mod PiecesLemmas
+pub mod EventLemmas
+pub mod UnderWayLemmas
 pub mod TestLemmas

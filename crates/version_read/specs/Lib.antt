@@ -1,3 +1,6 @@
 pub mod Records
 pub mod Next
 pub mod Seeks
+pub mod Lent
+pub mod Reads
+pub mod Pieces

@@ -1,5 +1,5 @@
 //! The search of a read for the row that its view sees.
-ghost use Rattle.std.specs.Prelude.{◌≡◌, ℕ, List, [], ◌∷◌, Option, Some, None, IfOk, OnErr, false};
+ghost use Rattle.std.specs.Prelude.{◌≡◌, ℕ, List, [], ◌∷◌, Option, Some, None, IfOk, IsSome, OnOk, OnErr, false};
 ghost use Rattle.page_model.specs.Pages.{Pages};
 ghost use Rattle.page_model.specs.Steps.{MayUse, Uses};
 ghost use Rattle.engine_base.specs.Addresses.{address_of};
@@ -17,11 +17,12 @@ ghost use Rattle.version_read.specs.Next.{IsReading, Does};
 ghost use Rattle.version_read.specs.Seeks.{begun, sees_in, IsOpen, GoesBack, Finds};
 
 use crate::places::next_place;
-use engine_base::{Addr, DocId, Fault, PageNo, Pages, strange};
-use lob_pages::{LobRef, LobVersion, TrxId};
+use crate::rows::present_row;
+use engine_base::{Addr, DocId, Fault, Pages, strange};
+use lob_pages::TrxId;
 use read_views::{Flight, Phase, Views};
 use undo_logs::at;
-use undo_records::{RollPtr, Row, RowState};
+use undo_records::Row;
 
 /// An event of a read in Seek: it judges the row that is next and up to eight behind it. At the
 /// first that its view sees it is at Found, or at Absent where that row is absent or deleted; else
@@ -46,6 +47,7 @@ pub fn judge_rows<P: Pages>(
         → IfOk result (λ _. Does (sees_in views.now flight.old.view)
         (document store flight.old.doc.0) shown
         (begun flight.old.row present (flight_of flight.old)) (flight_of flight.new)) }
+    ensures row { OnOk result (IsSome flight.new.row) }
     ensures of { (flight.new.view ≡ flight.old.view) × (flight.new.doc ≡ flight.old.doc) }
     ensures err { OnErr result (flight.new ≡ flight.old) }
     ensures never { (pages : Pages) (store : Store) (shown : Option (List Part))
@@ -74,27 +76,6 @@ fn first_row(next: Option<Row>, present: Option<Row>, doc: DocId) -> Row
     }
 }
 
-// A document without a row has an absent one.
-fn present_row(present: Option<Row>, doc: DocId) -> Row
-    ensures { row_in result ≡ row_read present }
-{
-    match present {
-        Some(row) => row,
-        None => Row {
-            doc,
-            state: RowState::Absent,
-            trx: TrxId(0),
-            roll: RollPtr(0),
-            lob: LobRef {
-                space: 0,
-                page: PageNo(0),
-                version: LobVersion(0),
-                length: 0,
-            },
-        },
-    }
-}
-
 // Whether the view, or a read without one, sees what a transaction did.
 fn is_seen(views: &Views, view: Option<usize>, trx: TrxId) -> bool
     requires view { IsOpen views.now view }
@@ -111,6 +92,7 @@ fn judge(flight: &mut Flight, views: &Views, row: Row)
     requires view { IsOpen views.now flight.old.view }
     ensures read { (doc : Document) → flight_of flight.new
         ≡ seek 0 (sees_in views.now flight.old.view) doc (row_in row) }
+    ensures row { flight.new.row ≡ Some row }
     ensures of { (flight.new.view ≡ flight.old.view) × (flight.new.doc ≡ flight.old.doc) }
 {
     if is_seen(views, flight.view, row.trx) {

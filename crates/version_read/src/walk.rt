@@ -1,5 +1,5 @@
 //! The walk of a read: old bytes of the changes that its view doesn't see, put back.
-ghost use Rattle.std.specs.Prelude.{◌≡◌, ℕ, List, [], ◌∷◌, Option, Some, IfOk};
+ghost use Rattle.std.specs.Prelude.{◌≡◌, ◌⊎◌, ℕ, List, [], ◌∷◌, Option, Some, IfOk};
 ghost use Rattle.page_model.specs.Pages.{Pages};
 ghost use Rattle.page_model.specs.Steps.{MayUse, Uses};
 ghost use Rattle.engine_base.specs.Addresses.{address_of};
@@ -30,6 +30,7 @@ pub fn put_records<P: Pages>(flight: &mut Flight, p: &mut P) -> Result<(), Fault
         (flight_of flight.old)
         → IfOk result (λ _. Does sees (document store flight.old.doc.0) shown
         (flight_of flight.old) (flight_of flight.new)) }
+    ensures phase { (flight.new.phase ≡ Phase.Unpatch) ⊎ (flight.new.phase ≡ Phase.Ready) }
     ensures of { KeepsBuffer flight.old flight.new }
     ensures never { (pages : Pages) (store : Store) (sees : Sees) (shown : Option (List Part))
         → IsReading (P.state p.old).told pages store flight.old.doc.0 sees shown
@@ -99,6 +100,7 @@ fn put_next<P: Pages>(flight: &mut Flight, p: &mut P, place: Addr) -> Result<(),
 fn end_where_none_is_left(flight: &mut Flight)
     requires phase { flight.old.phase ≡ Phase.Unpatch }
     ensures ends { (doc : Document) → flight_of flight.new ≡ walk 0 doc (flight_of flight.old) }
+    ensures phase { (flight.new.phase ≡ Phase.Unpatch) ⊎ (flight.new.phase ≡ Phase.Ready) }
     ensures of { KeepsBuffer flight.old flight.new }
 {
     if flight.cursor.0 == 0 {
