@@ -1,0 +1,4 @@
+pub mod Standing
+pub mod Lobs
+pub mod Touched
+pub mod Reached
