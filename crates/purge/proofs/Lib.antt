@@ -1,0 +1,12 @@
+pub mod FirstLemmas
+pub mod LogLemmas
+pub mod DueLemmas
+pub mod UseLemmas
+pub mod VersionLemmas
+pub mod RowLemmas
+pub mod OwnedLemmas
+pub mod KindLemmas
+pub mod RecordLemmas
+pub mod JobLemmas
+pub mod ConsistentLemmas
+pub mod TestLemmas
