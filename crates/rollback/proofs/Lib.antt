@@ -1,0 +1,11 @@
+mod LogLemmas
+mod NewestLemmas
+mod RowLemmas
+mod RunLemmas
+mod FlightLemmas
+mod VersionLemmas
+mod EndLemmas
+mod KindLemmas
+mod UseLemmas
+mod RecordLemmas
+mod TestLemmas
