@@ -208,7 +208,7 @@ module _ (o : Opening) (script : Script) (e : Engine) (kept : Kept o script e) (
   answer_keeps = record {
     calm = calm_kept;
     counts = record { commits = kept.counts.commits; purged = kept.counts.purged; more = kept.counts.more };
-    well = kept.well;
+    consistent = kept.consistent;
     given = kept.given;
     zero = kept.zero;
     logs = record {

@@ -8,7 +8,7 @@ use Rattle.store_model.specs.History.{Past, stands, stands_above}
 use Rattle.store_model.specs.History as store
 use Rattle.store_model.specs.Undo.{on_first}
 use Rattle.store_model.proofs.PurgeLemmas.{begun_keeps}
-use Rattle.store_model.proofs.WellBackLemmas.{well_begun}
+use Rattle.store_model.proofs.ConsistentLemmas.{begun_consistent}
 use Rattle.read_model.specs.Flight.{IsFlight}
 use Rattle.read_model.proofs.OtherLemmas.{begun_purge_same}
 use Rattle.kept_model.specs.Engine.{ReadView, sees_by, Engine}
@@ -95,7 +95,7 @@ module _ (o : Opening) (script : Script) (e : Engine) (kept : Kept o script e) (
   begun_keeps_all = record {
     calm = kept.calm;
     counts = record { commits = kept.counts.commits; purged = kept.counts.purged; more = kept.counts.more };
-    well = well_begun e.store kept.well;
+    consistent = begun_consistent e.store kept.consistent;
     given = λ d. subst (AllPast (λ x. x < e.store.next_trx)) (sym (same_history d)) (kept.given d);
     zero = old_so 0 kept.zero;
     logs = record {

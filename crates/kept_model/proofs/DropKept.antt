@@ -15,7 +15,6 @@ use Rattle.kept_model.specs.Kept.{Kept}
 use Rattle.kept_model.specs.Drops.{Drops, drop_event}
 use Rattle.kept_model.proofs.PassedLemmas.{purge_works}
 use Rattle.kept_model.proofs.PassKept.{greater_second, past_parts, past_same}
-use Rattle.store_model.proofs.WellLemmas.{well_lobs}
 use Rattle.kept_model.proofs.PlanKept.{stored_over}
 use Rattle.kept_model.proofs.SessionLemmas.{self_eq}
 use Rattle.kept_model.proofs.UndoRows.{among_more}
@@ -135,7 +134,7 @@ module _ (o : Opening) (script : Script) (e : Engine) (kept : Kept o script e) (
   drop_keeps = record {
     calm = kept.calm;
     counts = record { commits = kept.counts.commits; purged = kept.counts.purged; more = kept.counts.more };
-    well = well_lobs f e.store kept.well;
+    consistent = drops.consistent;
     given = λ q. rows_kept (λ x. x < e.store.next_trx) q (kept.given q);
     zero = kept.zero;
     logs = record {

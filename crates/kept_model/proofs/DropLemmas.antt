@@ -13,7 +13,10 @@ use Rattle.store_model.specs.Undo.{on_oldest}
 use Rattle.store_model.specs.Behind.{AllRows, SameParts, IsElsewhere, AtPiece}
 use Rattle.store_model.specs.Purging.{AllTo, FindsWithout}
 use Rattle.store_model.specs.Keeps.{IsVersioned, Frees}
-use Rattle.store_model.specs.Well.{AllIn, IsKind, IsStep, IsChain, IsWell}
+use Rattle.store_model.specs.Consistent.{IsConsistent}
+use Rattle.store_model.specs.Takes.{piece_of}
+use Rattle.store_model.specs.Well.{AllIn, IsKind, IsStep, IsChain}
+use Rattle.store_model.proofs.ConsistentLemmas.{drop_consistent, free_consistent, index_consistent}
 use Rattle.store_model.proofs.LogLemmas.{change}
 use Rattle.store_model.proofs.HistoryLemmas.{history-on, all-rows, same-on}
 use Rattle.store_model.proofs.LobLemmas.{parts-on_piece, piece-dropped}
@@ -34,6 +37,7 @@ use Rattle.read_model.proofs.StoreLobLemmas.{drop_touches, free_touches, index_t
 use Rattle.read_model.proofs.StorePurgeLemmas.{to_so}
 use Rattle.kept_model.specs.Rows.{SameTrx, SameTo}
 use Rattle.kept_model.specs.Drops.{Drops}
+use Rattle.kept_model.proofs.OwnLemmas.{owned_there}
 use Rattle.kept_model.proofs.KindLemmas.{will_same}
 use Rattle.kept_model.proofs.PassLemmas.{IsSplit, split, same_trx, same_to, first_of, last_kind}
 
@@ -71,7 +75,7 @@ at_found (suc k) v (p ∷ ps) each = at_found k v ps each
 
 -- ---- an event that changes LOBs alone
 
-module _ (a : Address) (u : Record) (store : Store) (l : Log) (ls : List Log) (well : IsWell store) (first : store.committed ≡ l ∷ ls) (oldest : last_in l.records ≡ (a, u) ∷ []) where
+module _ (a : Address) (u : Record) (store : Store) (l : Log) (ls : List Log) (all : IsConsistent store) (first : store.committed ≡ l ∷ ls) (oldest : last_in l.records ≡ (a, u) ∷ []) where
   abbrev cs : List Change
   cs = changes (on_oldest passed store) u.doc
 
@@ -82,7 +86,7 @@ module _ (a : Address) (u : Record) (store : Store) (l : Log) (ls : List Log) (w
   parted = split [] store.lobs (row_before store u.doc) cs (change l.trx a u)
 
   chain : IsChain (row_before store u.doc) (cs ++ change l.trx a u ∷ [])
-  chain = pass_chain a u store l ls well first oldest
+  chain = pass_chain a u store l ls all.well first oldest
 
   own_to : (P : Row → Type 0) → AllIn P (row_before store u.doc) cs → AllTo l.trx P (row_before store u.doc) (changes store u.doc)
   own_to P all = subst (AllTo l.trx P (row_before store u.doc)) (sym all_is) (all_to_change P (row_before store u.doc) cs (change l.trx a u) [] chain all)
@@ -103,8 +107,9 @@ module _ (a : Address) (u : Record) (store : Store) (l : Log) (ls : List Log) (w
       | inr other ↦ all_to l.trx (SameParts store.lobs (f store.lobs)) (row_before store q) (changes store q) (others q other)
     ]
 
-    lobs_drop : Drops l u.doc f store
-    lobs_drop = record {
+    lobs_drop : IsConsistent (on_lobs f store) → Drops l u.doc f store
+    lobs_drop consistent = record {
+      consistent = consistent;
       newer = parted.newer;
       own = parted.own;
       before = parted.before;
@@ -127,11 +132,11 @@ module _ (a : Address) (u : Record) (store : Store) (l : Log) (ls : List Log) (w
 
   module _ (frees : Frees u.body) where
     freed_own : AllTo l.trx (IsElsewhere u.before.lob.page) (row_before store u.doc) (changes store u.doc)
-    freed_own = let was = before_freed a u store l ls well first oldest frees in
+    freed_own = let was = before_freed a u store l ls all.well first oldest frees in
         own_to (IsElsewhere u.before.lob.page) (front_elsewhere (row_before store u.doc) cs (change l.trx a u) [] chain was.1 was.0)
 
     freed_others : (q : ℕ) → q ≢ u.doc → AllRows (IsElsewhere u.before.lob.page) store q
-    freed_others q other = before_elsewhere a u store l ls well first oldest q (λ e. other (sym e)) (before_freed a u store l ls well first oldest frees).0
+    freed_others q other = before_elsewhere a u store l ls all.well first oldest q (λ e. other (sym e)) (before_freed a u store l ls all.well first oldest frees).0
 
     seen_own : (sees : Sees) → sees l.trx ≡ true → SeesElsewhere sees (document store u.doc) u.before.lob.page
     seen_own sees known above older v visible =
@@ -139,7 +144,7 @@ module _ (a : Address) (u : Record) (store : Store) (l : Log) (ls : List Log) (w
 
     freed_drop : (g : Lob → Lob) → ((m : Lob) → (g m).page ≡ m.page)
         → ((sees : Sees) (q : ℕ) → SeesElsewhere sees (document store q) u.before.lob.page → Touches sees (document store q) (document (on_lobs (on_lob u.before.lob.page g) store) q))
-        → Drops l u.doc (on_lob u.before.lob.page g) store
+        → IsConsistent (on_lobs (on_lob u.before.lob.page g) store) → Drops l u.doc (on_lob u.before.lob.page g) store
     freed_drop g same touch = lobs_drop (on_lob u.before.lob.page g)
         (to_rows l.trx (IsElsewhere u.before.lob.page) (SameParts store.lobs (on_lob u.before.lob.page g store.lobs)) (row_before store u.doc) (changes store u.doc)
         (same_elsewhere u.before.lob.page g store.lobs same) freed_own)
@@ -147,11 +152,13 @@ module _ (a : Address) (u : Record) (store : Store) (l : Log) (ls : List Log) (w
         (λ sees known. touch sees u.doc (seen_own sees known))
         (λ sees q other. touch sees q (seen_elsewhere sees store q u.before.lob.page (freed_others q other)))
 
-    pub piece_drops : (free : List Address) → Drops l u.doc (on_lob u.before.lob.page (λ m. record (without_piece m) { free = free })) store
-    piece_drops free = freed_drop (λ m. record (without_piece m) { free = free }) (λ m. refl) (λ sees q elsewhere. free_touches sees store q u.before.lob.page free elsewhere)
+    pub piece_drops : (m : Lob) → lob_of store.lobs u.before.lob.page ≡ Some m → (free : List Address) → Drops l u.doc (on_lob u.before.lob.page (λ m. record (without_piece m) { free = free })) store
+    piece_drops m found free = freed_drop (λ m. record (without_piece m) { free = free }) (λ m. refl) (λ sees q elsewhere. free_touches sees store q u.before.lob.page free elsewhere)
+        (free_consistent u.before.lob.page m store all found (owned_there store u.before.lob.page m all found) free)
 
-    pub index_drops : Drops l u.doc (on_lob u.before.lob.page without_index) store
-    index_drops = freed_drop without_index (λ m. refl) (λ sees q elsewhere. index_touches sees store q u.before.lob.page elsewhere)
+    pub index_drops : (m : Lob) → lob_of store.lobs u.before.lob.page ≡ Some m → (i : ℕ) (is : List ℕ) → m.index ≡ i ∷ is → Drops l u.doc (on_lob u.before.lob.page without_index) store
+    index_drops m found i is index = freed_drop without_index (λ m. refl) (λ sees q elsewhere. index_touches sees store q u.before.lob.page elsewhere)
+        (index_consistent u.before.lob.page m store all found (owned_there store u.before.lob.page m all found) i is index)
 
   -- ---- a version of it is dropped
 
@@ -184,7 +191,7 @@ module _ (a : Address) (u : Record) (store : Store) (l : Log) (ls : List Log) (w
         )
 
     drop_others : (q : ℕ) → q ≢ u.doc → AllRows (IsElsewhere u.before.lob.page) store q
-    drop_others q other = before_elsewhere a u store l ls well first oldest q (λ e. other (sym e)) version_from.0
+    drop_others q other = before_elsewhere a u store l ls all.well first oldest q (λ e. other (sym e)) version_from.0
 
     may_drop : (sees : Sees) → sees l.trx ≡ true → MayDropAt sees (document store u.doc) u.before.lob.page k
     may_drop sees known above older v visible is_live here =
@@ -201,8 +208,8 @@ module _ (a : Address) (u : Record) (store : Store) (l : Log) (ls : List Log) (w
     same_found row found = same-on u.before.lob.page drop_at store.lobs row (λ m. refl)
         (λ is_live here m there. parts-on_piece k dropped m.pieces row.lob.version (at_found k row.lob.version m.pieces (found is_live here m there)))
 
-    pub version_drops : Drops l u.doc (on_lob u.before.lob.page (λ m. record (at_piece k dropped m) { free = free })) store
-    version_drops = lobs_drop (on_lob u.before.lob.page drop_at)
+    pub version_drops : (m : Lob) → lob_of store.lobs u.before.lob.page ≡ Some m → (p : Piece) → piece_of k m.pieces ≡ Some p → Drops l u.doc (on_lob u.before.lob.page (λ m. record (at_piece k dropped m) { free = free })) store
+    version_drops m found p kth = lobs_drop (on_lob u.before.lob.page drop_at)
         (to_rows l.trx (FindsWithout u.before.lob.page k store.lobs) (SameParts store.lobs (on_lob u.before.lob.page drop_at store.lobs)) (row_before store u.doc) (changes store u.doc)
         same_found find_own)
         (λ q other. rows_so (IsElsewhere u.before.lob.page) (SameParts store.lobs (on_lob u.before.lob.page drop_at store.lobs)) store q
@@ -210,3 +217,4 @@ module _ (a : Address) (u : Record) (store : Store) (l : Log) (ls : List Log) (w
         (λ sees known. drop_touches sees store u.doc u.before.lob.page k free (may_drop sees known))
         (λ sees q other. drop_touches sees store q u.before.lob.page k free (λ above older v visible is_live here.
         absurd (seen_elsewhere sees store q u.before.lob.page (drop_others q other) above older v visible is_live here)))
+        (drop_consistent u.before.lob.page m store all found (owned_there store u.before.lob.page m all found) k p free kth)

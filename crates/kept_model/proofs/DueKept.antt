@@ -13,7 +13,7 @@ use Rattle.store_model.specs.History as store
 use Rattle.store_model.specs.Steps.{log_of, without_log}
 use Rattle.store_model.specs.Events.{moved, committed_by}
 use Rattle.store_model.proofs.CommitLemmas.{commit_among_old}
-use Rattle.store_model.proofs.WellLemmas.{well_commit}
+use Rattle.store_model.proofs.ConsistentLemmas.{commit_consistent}
 use Rattle.read_model.specs.Flight.{IsFlight}
 use Rattle.read_model.proofs.StoreLemmas.{commit_same}
 use Rattle.kept_model.specs.Engine.{ReadView, sees_by, Left, idle, Engine, resting, unless}
@@ -73,7 +73,7 @@ module _ (o : Opening) (script : Script) (run : IsRun o script) (e : Engine) (s 
   -- ---- counts, logs, sessions
 
   store_is : committed_by trx e.store ≡ moved trx (Some l.0) e.store
-  store_is = after_is e.store e.sessions s trx l.0 kept.well kept.logs is l.1
+  store_is = after_is e.store e.sessions s trx l.0 kept.consistent.well kept.logs is l.1
 
   pub counts_kept : AreCounts o new.journal new.store
   counts_kept = record {
@@ -83,7 +83,7 @@ module _ (o : Opening) (script : Script) (run : IsRun o script) (e : Engine) (s 
   }
 
   pub logs_kept : AreLogs new.store new.sessions
-  logs_kept = subst (λ (st : Store). AreLogs st new.sessions) (sym store_is) (logs_committed e.store e.sessions s trx l.0 kept.well kept.logs is l.1)
+  logs_kept = subst (λ (st : Store). AreLogs st new.sessions) (sym store_is) (logs_committed e.store e.sessions s trx l.0 kept.consistent.well kept.logs is l.1)
 
   next_same : new.store.next_trx ≡ e.store.next_trx
   next_same = ap (λ (st : Store). st.next_trx) store_is
@@ -113,7 +113,7 @@ module _ (o : Opening) (script : Script) (run : IsRun o script) (e : Engine) (s 
       by_trx None has = refl
       by_trx (Some x) has =
           ap (λ (st : Store). records_of (log_of st.active x)) store_is
-          ∙ ap records_of (log_other x trx e.store.active (other_trx e.store e.sessions s trx l.0 kept.well kept.logs is l.1 t x apart has))
+          ∙ ap records_of (log_other x trx e.store.active (other_trx e.store e.sessions s trx l.0 kept.consistent.well kept.logs is l.1 t x apart has))
 
   pub logged_kept : (t : ℕ) → IsLogged script new.journal t (new.sessions t) new.store
   logged_kept = by_session (λ t x. IsLogged script new.journal t x new.store) s resting e.sessions
@@ -162,7 +162,7 @@ module _ (o : Opening) (script : Script) (run : IsRun o script) (e : Engine) (s 
     limit = subst (λ (m : ℕ). v.limit ≤ m) (sym next_same) h.limit;
     active = λ x stand.
         let now : stands x (without_log trx e.store.active) ≡ true = ap (λ (st : Store). stands x st.active) (sym store_is) ∙ stand in
-        let other : x ≢ trx = (λ same. true≢false (sym now ∙ ap (λ (m : ℕ). stands m (without_log trx e.store.active)) same ∙ gone_stands trx e.store.active (distinct_parts e.store.active e.store.committed kept.well.logs).0)) in
+        let other : x ≢ trx = (λ same. true≢false (sym now ∙ ap (λ (m : ℕ). stands m (without_log trx e.store.active)) same ∙ gone_stands trx e.store.active (distinct_parts e.store.active e.store.committed kept.consistent.well.logs).0)) in
         h.active x (sym (stands_without x trx e.store.active other) ∙ now);
     rows = λ d. subst (AllPast (λ x. sees_by None v x ≡ is_among new.store v.commits x)) (sym (same_history d))
         (all_past (λ x. sees_by None v x ≡ is_among e.store v.commits x) _ (store.history e.store d) (λ x same. same ∙ sym (commit_among_old trx v.commits e.store h.high x)) (h.rows d));
@@ -196,7 +196,7 @@ module _ (o : Opening) (script : Script) (run : IsRun o script) (e : Engine) (s 
         is = r.is;
         parts = r.parts;
         shows = r.shows ∙ ap bytes_of (sym (shown_same o script run past s n t d (elses t apart) kept.calm.legal calm_kept.legal (apart_docs t d apart) below));
-        flight = subst (λ doc. IsFlight (sees_by (e.sessions t).trx r.view) doc r.parts f) (sym (commit_same trx d e.store (kept.well.locked d))) r.flight;
+        flight = subst (λ doc. IsFlight (sees_by (e.sessions t).trx r.view) doc r.parts f) (sym (commit_same trx d e.store (kept.consistent.well.locked d))) r.flight;
       })
 
   -- ---- changes under way
@@ -227,7 +227,7 @@ module _ (o : Opening) (script : Script) (run : IsRun o script) (e : Engine) (s 
   commit_keeps = record {
     calm = calm_kept;
     counts = counts_kept;
-    well = well_commit trx e.store kept.well;
+    consistent = commit_consistent trx e.store kept.consistent;
     given = given_kept;
     zero = (let l = stands_log trx e.store.active (kept.logs.own s trx is).0 in commit_old e.store e.sessions s trx l.0 kept.logs is l.1 0 kept.zero);
     logs = logs_kept;

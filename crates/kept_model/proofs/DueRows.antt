@@ -85,7 +85,7 @@ module _ (o : Opening) (script : Script) (run : IsRun o script) (e : Engine) (s 
   calm_kept = record { legal = (kept.calm.legal, commit_allowed); commit = refl; restart = refl }
 
   pub same_history : (d : ℕ) → store.history new.store d ≡ store.history e.store d
-  same_history d = commit_keeps_all trx d e.store (kept.well.locked d)
+  same_history d = commit_keeps_all trx d e.store (kept.consistent.well.locked d)
 
   pub elses : (t : ℕ) → nat_eq t s ≡ false → SaysSame script t past new.journal
   elses t apart = let other : nat_eq s t ≡ false = grind (arith, apart) in says_same script t es past (other, tt)

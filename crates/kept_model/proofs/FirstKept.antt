@@ -1,5 +1,5 @@
 -- A session's log is begun: all is kept, but that it has no record yet.
-use Rattle.std.proofs.Common.{◌≡◌, ◌≢◌, ◌⊎◌, inl, inr, ℕ, suc, ◌≤◌, ◌<◌, Bool, true, false, true≢false, not, ◌&&◌, ◌||◌, nat_eq, nat_lt, List, [], ◌∷◌, ◌++◌, Option, Some, None, refl, sym, ap, ap₂, subst, ◌∙◌, arith, if◌then◌else◌}
+use Rattle.std.proofs.Common.{◌≡◌, ◌≢◌, ◌⊎◌, inl, inr, ℕ, suc, ◌≤◌, ◌<◌, Bool, true, false, true≢false, not, ◌&&◌, ◌||◌, nat_eq, nat_lt, List, [], ◌∷◌, Option, Some, None, refl, sym, ap, ap₂, subst, ◌∙◌, arith, if◌then◌else◌}
 use Rattle.std.specs.List.{list_any}
 use Rattle.journal_model.specs.Journal.{Script, Opening}
 use Rattle.journal_model.specs.History.{Owner, session, commit, history}
@@ -10,7 +10,9 @@ use Rattle.store_model.specs.History as store
 use Rattle.store_model.specs.Steps.{log_of}
 use Rattle.store_model.specs.Events.{Plan}
 use Rattle.store_model.specs.Moves.{MayChange}
-use Rattle.store_model.specs.Well.{IsWell, NoLog}
+use Rattle.store_model.specs.Owned.{owned, IsNotAmong}
+use Rattle.store_model.specs.Consistent.{IsConsistent}
+use Rattle.store_model.proofs.ConsistentLemmas.{log_begun_consistent}
 use Rattle.kept_model.specs.Engine.{ReadView, sees_by, Task, fetching, Session, Engine}
 use Rattle.kept_model.specs.Names.{names_of, floor, is_old, is_purging, AreLogs}
 use Rattle.kept_model.specs.Stored.{Front, front_of, front_by, front, IsStoredBy, known_from, IsStored}
@@ -67,17 +69,12 @@ off_head x l ls none = by_test (nat_eq l.trx x) refl none
     by_test true e h = absurd (true≢false h)
     by_test false e h = ((λ same. apart_of l.trx x same e), h)
 
-no_log : (x : ℕ) (ls ms : List Log) → stands x ls ≡ false → stands x ms ≡ false → NoLog x (ls ++ ms)
-no_log x [] [] a b = tt
-no_log x [] (m ∷ ms) a b = let n = off_head x m ms b in (n.0, no_log x [] ms a n.1)
-no_log x (l ∷ ls) ms a b = let n = off_head x l ls a in (n.0, no_log x ls ms n.1 b)
-
 both_past : (P Q R : ℕ → Type 0) (ps : List Past) → ((x : ℕ) → P x → Q x → R x) → AllPast P ps → AllPast Q ps → AllPast R ps
 both_past P Q R [] so all more = tt
 both_past P Q R (p ∷ ps) so all more = (so p.trx all.0 more.0, both_past P Q R ps so all.1 more.1)
 
 module _ (o : Opening) (script : Script) (e : Engine) (kept : Kept o script e) (s d page : ℕ) (read : List Part)
-    (fetched : (e.sessions s).task ≡ fetching d read) (none : (e.sessions s).trx ≡ None) where
+    (fetched : (e.sessions s).task ≡ fetching d read) (none : (e.sessions s).trx ≡ None) (unowned : IsNotAmong page (owned e.store)) where
   abbrev trx : ℕ
   trx = e.store.next_trx
 
@@ -154,15 +151,10 @@ module _ (o : Opening) (script : Script) (e : Engine) (kept : Kept o script e) (
       below_by x true g h = same_suc x trx (is_eq trx x g)
       below_by x false g h = less_suc x trx (kept.logs.below x (inl h))
 
-  pub well_kept : IsWell new.store
-  well_kept = record {
-    chains = kept.well.chains;
-    places = kept.well.places;
-    apart = kept.well.apart;
-    logs = (no_log trx e.store.active e.store.committed not_active not_committed, kept.well.logs);
-    locked = λ q. inl (refl, kept.well.locked q);
-    numbered = kept.well.numbered;
-  }
+  pub consistent_kept : IsConsistent new.store
+  consistent_kept =
+      let some = (kept.consistent.ids.rows d).0 in
+      log_begun_consistent trx page e.store kept.consistent (omega arith) (omega (arith, some)) unowned
 
   -- ---- documents
 
@@ -246,7 +238,7 @@ module _ (o : Opening) (script : Script) (e : Engine) (kept : Kept o script e) (
   log_is_begun = record {
     calm = kept.calm;
     counts = record { commits = kept.counts.commits; purged = kept.counts.purged; more = kept.counts.more };
-    well = well_kept;
+    consistent = consistent_kept;
     given = λ q. all_past (λ x. x < trx) (λ x. x < suc trx) (store.history e.store q) (λ x below. less_suc x trx below) (kept.given q);
     zero = old_more 0 kept.zero;
     logs = logs_kept;

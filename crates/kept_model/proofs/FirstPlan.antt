@@ -10,7 +10,8 @@ use Rattle.store_data.specs.Pieces.{Part}
 use Rattle.store_model.specs.History.{row_before}
 use Rattle.store_model.specs.Events.{Plan}
 use Rattle.store_model.specs.Moves.{MayChange}
-use Rattle.store_model.specs.Well.{IsWell}
+use Rattle.store_model.specs.Owned.{owned, IsNotAmong}
+use Rattle.store_model.specs.Consistent.{IsConsistent}
 use Rattle.kept_model.specs.Engine.{Left, fetching, Engine}
 use Rattle.kept_model.specs.Rows.{bytes_of}
 use Rattle.kept_model.specs.Views.{will_show}
@@ -18,13 +19,13 @@ use Rattle.kept_model.specs.Kept.{Kept}
 use Rattle.kept_model.specs.Plans.{Plans, plan_event}
 use Rattle.kept_model.specs.Begun.{log_event, IsBegun}
 use Rattle.kept_model.proofs.PlanKept.{begun_planned}
-use Rattle.kept_model.proofs.FirstKept.{log_is_begun, well_kept, may_begin, task_is, trx_is}
+use Rattle.kept_model.proofs.FirstKept.{log_is_begun, consistent_kept, may_begin, task_is, trx_is}
 
 with_log : (o : Opening) (script : Script) (e : Engine) → Kept o script e → (s : ℕ) → IsBegun s o script e
 with_log o script e kept s = record {
   calm = kept.calm;
   counts = kept.counts;
-  well = kept.well;
+  consistent = kept.consistent;
   given = kept.given;
   zero = kept.zero;
   logs = kept.logs;
@@ -49,17 +50,17 @@ plan_keeps o script e kept s p left r next plans read fetched is c asked doc_is 
 
 -- the same where the session's log is begun in the event
 pub first_plan_keeps : (o : Opening) (script : Script) (e : Engine) → Kept o script e → (s page : ℕ) (p : Plan) (left : Left) (r : Reply) (next : Store)
-    → Plans p (log_event s page e).store next → (read : List Part) → (e.sessions s).task ≡ fetching p.doc read → (e.sessions s).trx ≡ None → p.trx ≡ e.store.next_trx
+    → IsNotAmong page (owned e.store) → Plans p (log_event s page e).store next → (read : List Part) → (e.sessions s).task ≡ fetching p.doc read → (e.sessions s).trx ≡ None → p.trx ≡ e.store.next_trx
     → (c : Call) → under_way script s e.journal ≡ Some (call c) → call_doc c ≡ p.doc → r ≡ reply_to c (newest o script s e.journal) → is_ok_reply r ≡ true
     → will_show left next.lobs (row_before next p.doc) ≡ bytes_of (one_made s c (newest_in s (history o script e.journal p.doc))).left
     → Kept o script (plan_event s p left r next (log_event s page e))
-first_plan_keeps o script e kept s page p left r next plans read fetched none is c asked doc_is replies ok ends =
-    begun_planned o script (log_event s page e) s (log_is_begun o script e kept s p.doc page read fetched none) p left r next plans read
-    (task_is o script e kept s p.doc page read fetched none) (trx_is o script e kept s p.doc page read fetched none ∙ ap (λ (n : ℕ). Some n) (sym is)) c asked doc_is replies ok ends
+first_plan_keeps o script e kept s page p left r next unowned plans read fetched none is c asked doc_is replies ok ends =
+    begun_planned o script (log_event s page e) s (log_is_begun o script e kept s p.doc page read fetched none unowned) p left r next plans read
+    (task_is o script e kept s p.doc page read fetched none unowned) (trx_is o script e kept s p.doc page read fetched none unowned ∙ ap (λ (n : ℕ). Some n) (sym is)) c asked doc_is replies ok ends
 
--- its store is well formed, and the session may change the document there
+-- its store is consistent, and the session may change the document there
 pub log_may_change : (o : Opening) (script : Script) (e : Engine) → Kept o script e → (s page : ℕ) (p : Plan) (read : List Part)
-    → (e.sessions s).task ≡ fetching p.doc read → (e.sessions s).trx ≡ None → p.trx ≡ e.store.next_trx
-    → IsWell (log_event s page e).store × MayChange p (log_event s page e).store
-log_may_change o script e kept s page p read fetched none is =
-    (well_kept o script e kept s p.doc page read fetched none, may_begin o script e kept s p.doc page read fetched none p is refl)
+    → (e.sessions s).task ≡ fetching p.doc read → (e.sessions s).trx ≡ None → p.trx ≡ e.store.next_trx → IsNotAmong page (owned e.store)
+    → IsConsistent (log_event s page e).store × MayChange p (log_event s page e).store
+log_may_change o script e kept s page p read fetched none is unowned =
+    (consistent_kept o script e kept s p.doc page read fetched none unowned, may_begin o script e kept s p.doc page read fetched none unowned p is refl)

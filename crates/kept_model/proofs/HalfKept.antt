@@ -8,7 +8,6 @@ use Rattle.store_data.specs.Store.{Lob}
 use Rattle.store_model.specs.History.{Past, changes, row_before, content_behind}
 use Rattle.store_model.specs.History as store
 use Rattle.store_model.specs.Steps.{all_but_first}
-use Rattle.store_model.proofs.WellLemmas.{well_lobs}
 use Rattle.read_model.specs.Flight.{Flight, IsFlight}
 use Rattle.read_model.specs.OfStore.{document}
 use Rattle.kept_model.specs.Engine.{ReadView, is_own, sees_by, Left, Task, idle, asking, fetching, making, reading, undoing, Engine}
@@ -192,7 +191,7 @@ module _ (o : Opening) (script : Script) (e : Engine) (kept : Kept o script e) (
   half_keeps = record {
     calm = kept.calm;
     counts = record { commits = kept.counts.commits; purged = kept.counts.purged; more = kept.counts.more };
-    well = well_lobs f e.store kept.well;
+    consistent = halves.consistent;
     given = λ q. rows_kept (λ x. x < e.store.next_trx) q (kept.given q);
     zero = kept.zero;
     logs = record {

@@ -140,7 +140,7 @@ module _ (o : Opening) (script : Script) (e : Engine) (kept : Kept o script e) w
           absurd (other (is l.trx (sym (ap (λ (n : ℕ). (e.sessions n).trx) one) ∙ t.1)))
 
   all_found : AreFound e.store.active e.store.active
-  all_found = logs_found e.store.active (distinct_parts e.store.active e.store.committed kept.well.logs).0
+  all_found = logs_found e.store.active (distinct_parts e.store.active e.store.committed kept.consistent.well.logs).0
 
   -- so a session that has the lock may change it
   pub may_change : (s : ℕ) (p : Plan) → (e.sessions s).trx ≡ Some p.trx → e.locks p.doc ≡ Some s → MayChange p e.store

@@ -10,12 +10,17 @@ use Rattle.store_data.specs.Logs.{with_record}
 use Rattle.store_model.specs.Steps.{on_log, log_of, on_lobs, on_lob, at_version}
 use Rattle.store_model.specs.Events.{Plan, record_of, planned, new_row, raised_row, patched_row, deleted_row, insert_begun, rebuild_begun, version_begun, patch_made, delete_made}
 use Rattle.store_model.specs.Behind.{AllRows, SameParts}
-use Rattle.store_model.specs.Moves.{MayChange, Begins, IsUnnamed, ArePaired, StandThere, IsUntouched}
-use Rattle.store_model.specs.Well.{IsWell, IsNew}
+use Rattle.store_model.specs.Moves.{MayChange, Begins, ArePaired, StandThere, IsUntouched}
+use Rattle.store_model.specs.Consistent.{IsConsistent}
+use Rattle.store_model.specs.Owned.{rest_of, AreDifferent}
+use Rattle.store_model.specs.Takes.{AreUnowned}
+use Rattle.store_model.specs.Versions.{AreUpTo}
+use Rattle.store_model.specs.Well.{IsNew}
 use Rattle.store_model.proofs.RowLemmas.{row-with_other}
 use Rattle.store_model.proofs.HistoryLemmas.{same-with, same-on}
 use Rattle.store_model.proofs.ChangeLemmas.{insert_begins, rebuild_begins, version_begins, patch_begins, delete_begins, lobs_taken_back, untouched_same}
-use Rattle.store_model.proofs.WellLemmas.{well_insert, well_rebuild, well_version, well_patch, well_delete}
+use Rattle.store_model.proofs.OwnedLemmas.{unowned_lob}
+use Rattle.store_model.proofs.ConsistentLemmas.{none_unowned, insert_consistent, rebuild_consistent, version_consistent, patch_consistent, delete_consistent}
 use Rattle.read_model.specs.Document.{Sees}
 use Rattle.read_model.specs.Flight.{Flight, IsFlight}
 use Rattle.read_model.specs.OfStore.{document}
@@ -81,12 +86,12 @@ module _ (p : Plan) (new : Row → Row) (body : Body) (f : List Lob → List Lob
   abbrev after : Store
   after = on_lobs f (planned p new body store)
 
-  pub planned_plans : Begins p store after → IsWell after
+  pub planned_plans : Begins p store after → IsConsistent after
       → ((sees : Sees) (d : ℕ) (shown : Option (List Part)) (g : Flight) → sees p.trx ≡ false → IsFlight sees (document store d) shown g → IsFlight sees (document after d) shown g)
       → ((d : ℕ) → d ≢ p.doc → SameParts store.lobs (f store.lobs) (row_before store d)) → Plans p store after
-  planned_plans begins well reads same = record {
+  planned_plans begins consistent reads same = record {
     begins = begins;
-    well = well;
+    consistent = consistent;
     next = refl;
     commits = refl;
     purged = refl;
@@ -102,12 +107,12 @@ module _ (p : Plan) (new : Row → Row) (body : Body) (f : List Lob → List Lob
 
 -- ---- the kinds
 
-module _ (p : Plan) (store : Store) (well : IsWell store) (may : MayChange p store) (fresh : IsNew p.place (changes store p.doc)) where
+module _ (p : Plan) (store : Store) (all : IsConsistent store) (may : MayChange p store) (fresh : IsNew p.place (changes store p.doc)) where
   pub patch_plans : (old new : List Run) → (row_before store p.doc).state ≡ live → ArePaired old new → StandThere old store.lobs
       → ((d : ℕ) → d ≢ p.doc → AllRows (IsUntouched new store.lobs) store d) → Plans p store (patch_made p old new store)
   patch_plans old new stays paired there off = planned_plans p (patched_row p) (patched old) (lobs_laid new) store may
       (patch_begins p old new store may paired there off)
-      (well_patch p old new store well may fresh stays)
+      (patch_consistent p store all may fresh old new stays)
       (λ sees d shown g unseen h. (reads_patched p old new store (record { doc = d; sees = sees; shown = shown; flight = g } ∷ []) may
       (lobs_taken_back old new store.lobs paired there) off (unseen, tt) (h, tt)).0)
       (λ d other. untouched_same new store.lobs (row_before store d) (off d other).0)
@@ -115,7 +120,7 @@ module _ (p : Plan) (store : Store) (well : IsWell store) (may : MayChange p sto
   pub delete_plans : (row_before store p.doc).state ≡ live → Plans p store (delete_made p store)
   delete_plans stays = planned_plans p (deleted_row p) removed (λ ls. ls) store may
       (delete_begins p store may)
-      (well_delete p store well may fresh stays)
+      (delete_consistent p store all may fresh stays)
       (λ sees d shown g unseen h. (reads_deleted p store (record { doc = d; sees = sees; shown = shown; flight = g } ∷ []) may (unseen, tt) (h, tt)).0)
       (λ d other is_live. refl)
 
@@ -125,20 +130,26 @@ module _ (p : Plan) (store : Store) (well : IsWell store) (may : MayChange p sto
       let g = at_version (suc (row_before store p.doc).lob.version) in
       planned_plans p (raised_row p) (versioned pieces touched) (on_lob page g) store may
       (version_begins p pieces touched store may)
-      (well_version p pieces touched store well may fresh stays)
+      (version_consistent p store all may fresh pieces touched stays)
       (λ sees d shown k unseen h. (reads_raised p pieces touched store (record { doc = d; sees = sees; shown = shown; flight = k } ∷ []) may (unseen, tt) (h, tt)).0)
       (λ d other. same-on page g store.lobs (row_before store d) (λ l. refl) (λ is_live here l there. refl))
 
-  pub insert_plans : (lob : Lob) (n : ℕ) → IsUnnamed lob.page store → (row_before store p.doc).state ≢ live → Plans p store (insert_begun p lob n store)
-  insert_plans lob n unnamed stays = planned_plans p (new_row p lob.page n) (inserted lob.page) (λ ls. ls ++ lob ∷ []) store may
+  pub insert_plans : (lob : Lob) (n : ℕ) → AreDifferent (lob.page ∷ rest_of (Some lob)) → AreUnowned (lob.page ∷ rest_of (Some lob)) store → lob.version ≡ 1 → AreUpTo 1 lob.pieces
+      → (row_before store p.doc).state ≢ live → Plans p store (insert_begun p lob n store)
+  insert_plans lob n different unowned one up stays =
+      let unnamed = unowned_lob lob.page store all.well (none_unowned lob.page store unowned.0) in
+      planned_plans p (new_row p lob.page n) (inserted lob.page) (λ ls. ls ++ lob ∷ []) store may
       (insert_begins p lob n store may unnamed)
-      (well_insert p lob n store well may fresh unnamed stays)
+      (insert_consistent p store all may fresh lob n different unowned one up stays)
       (λ sees d shown g unseen h. (reads_inserted p lob n store (record { doc = d; sees = sees; shown = shown; flight = g } ∷ []) may unnamed (unseen, tt) (h, tt)).0)
       (λ d other. same-with store.lobs lob (row_before store d) (unnamed d).0)
 
-  pub rebuild_plans : (lob : Lob) (n : ℕ) → IsUnnamed lob.page store → (row_before store p.doc).state ≡ live → Plans p store (rebuild_begun p lob n store)
-  rebuild_plans lob n unnamed stays = planned_plans p (new_row p lob.page n) (rebuilt lob.page) (λ ls. ls ++ lob ∷ []) store may
+  pub rebuild_plans : (lob : Lob) (n : ℕ) → AreDifferent (lob.page ∷ rest_of (Some lob)) → AreUnowned (lob.page ∷ rest_of (Some lob)) store → lob.version ≡ 1 → AreUpTo 1 lob.pieces
+      → (row_before store p.doc).state ≡ live → Plans p store (rebuild_begun p lob n store)
+  rebuild_plans lob n different unowned one up stays =
+      let unnamed = unowned_lob lob.page store all.well (none_unowned lob.page store unowned.0) in
+      planned_plans p (new_row p lob.page n) (rebuilt lob.page) (λ ls. ls ++ lob ∷ []) store may
       (rebuild_begins p lob n store may unnamed)
-      (well_rebuild p lob n store well may fresh unnamed stays)
+      (rebuild_consistent p store all may fresh lob n different unowned one up stays)
       (λ sees d shown g unseen h. (reads_rebuilt p lob n store (record { doc = d; sees = sees; shown = shown; flight = g } ∷ []) may unnamed (unseen, tt) (h, tt)).0)
       (λ d other. same-with store.lobs lob (row_before store d) (unnamed d).0)

@@ -119,7 +119,7 @@ module _ (o : Opening) (script : Script) (e : Engine) (kept : Kept o script e) (
       (has_two [] e.store.lobs (row_before e.store u.doc) (change trx place u) (changes (without_newest trx u e.store) u.doc))
 
   pub first_trx : two.first.trx ≡ trx
-  first_trx = two.trx ∙ (subst (IsChain (row_before e.store u.doc)) (changes-popped trx place u e.store newest) (kept.well.chains u.doc)).0.trx
+  first_trx = two.trx ∙ (subst (IsChain (row_before e.store u.doc)) (changes-popped trx place u e.store newest) (kept.consistent.well.chains u.doc)).0.trx
 
   -- the rest of the rows, or an absent row
   pub all_new : (P : List Past → Type 0) → P (two.second ∷ two.rest) → (two.rest ≡ [] → two.second.bytes ≡ None → P (record { trx = 0; bytes = None } ∷ [])) → P (store.history next u.doc)
@@ -146,7 +146,7 @@ module _ (o : Opening) (script : Script) (e : Engine) (kept : Kept o script e) (
 
   pub off : (d : ℕ) (f : Front) → (k : Over d f) → OfOwners (λ w. w ≢ session s) (k.ahead ++ k.left)
   off d f k = none_named (names_of e) (is_old e.store) trx (session s) (k.ahead ++ k.left) (store.history next d) is
-      (rows_off trx [] next.lobs (row_before next d) (changes next d) (undoes.well.chains d) (none_left d)) k.named
+      (rows_off trx [] next.lobs (row_before next d) (changes next d) (undoes.consistent.well.chains d) (none_left d)) k.named
 
   pub over : (d : ℕ) (f : Front) → Over d f
       → IsStoredBy (known_from o next) script e.journal (history o script e.journal d) f (is_purging next.committed) (suc next.purged) (is_old next) (names_of new) (store.history next d)

@@ -1,3 +1,4 @@
+pub mod OwnLemmas
 pub mod RowLemmas
 pub mod NameLemmas
 pub mod StoredLemmas

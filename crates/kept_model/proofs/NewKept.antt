@@ -9,13 +9,20 @@ pub kept_new : (pages : ℕ) (script : Script) → Kept (new_store pages) script
 kept_new pages script = record {
   calm = record { legal = tt; commit = refl; restart = refl };
   counts = record { commits = refl; purged = refl; more = omega arith };
-  well = record {
-    chains = λ d. tt;
-    places = λ d. tt;
-    apart = λ d e other. ((λ is. absurd (cc is)), tt);
-    logs = tt;
-    locked = λ d. tt;
-    numbered = tt;
+  consistent = record {
+    well = record {
+      chains = λ d. tt;
+      places = λ d. tt;
+      apart = λ d e other. ((λ is. absurd (cc is)), tt);
+      logs = tt;
+      locked = λ d. tt;
+      numbered = tt;
+    };
+    ids = record { some = tt; logs = tt; rows = λ d. (omega arith, tt); bases = λ d. tt };
+    lobs = λ n. refl;
+    versions = λ d. ((λ is. absurd (cc is)), tt);
+    sound = (tt, tt);
+    rising = tt;
   };
   given = λ d. (omega arith, tt);
   zero = refl;

@@ -246,7 +246,7 @@ module _ (o : Opening) (script : Script) (e : Engine) (kept : Kept o script e) (
   pass_keeps = record {
     calm = kept.calm;
     counts = record { commits = passes.commits ∙ kept.counts.commits; purged = passes.purged ∙ kept.counts.purged; more = subst (λ (m : ℕ). o.commits ≤ m) (sym passes.commits) kept.counts.more };
-    well = passes.well;
+    consistent = passes.consistent;
     given = λ d. subst (λ (m : ℕ). AllPast (λ x. x < m) (store.history next d)) (sym passes.next) (rows_kept (λ x. x < e.store.next_trx) zero_parts.0 d (kept.given d));
     zero = old_same 0 ∙ kept.zero;
     logs = logs_kept;

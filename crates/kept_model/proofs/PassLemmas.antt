@@ -12,10 +12,12 @@ use Rattle.store_model.specs.Undo.{on_oldest, cleared, is_newest, swept, record_
 use Rattle.store_model.specs.Behind.{SameParts}
 use Rattle.store_model.specs.Purging.{AllTo}
 use Rattle.store_model.specs.Well.{IsWell, IsStep, IsChain, IsNew, AreNamedOnce}
+use Rattle.store_model.specs.Consistent.{IsConsistent}
 use Rattle.store_model.proofs.LogLemmas.{change}
 use Rattle.store_model.proofs.HistoryLemmas.{history-on, content-same, same-laid}
 use Rattle.store_model.proofs.PurgeLemmas.{swept_lobs, swept_changes, swept_row, pass_others}
-use Rattle.store_model.proofs.WellBackLemmas.{passed_all, swept_well, well_passed}
+use Rattle.store_model.proofs.WellBackLemmas.{passed_all, swept_well}
+use Rattle.store_model.proofs.ConsistentLemmas.{pass_consistent}
 use Rattle.store_model.proofs.GivesLemmas.{pass_chain, own_same, others_same, before_elsewhere}
 use Rattle.store_model.specs.Keeps.{Frees}
 use Rattle.read_model.proofs.ReadsLemmas.{reads_passed}
@@ -89,7 +91,7 @@ pub last_kind : (row : Row) (cs : List Change) (c : Change) → IsChain row (cs 
 last_kind row [] c chain = (row, chain.0.kind)
 last_kind row (d ∷ cs) c chain = last_kind d.undo.before cs c chain.1
 
-module _ (a : Address) (u : Record) (store : Store) (l : Log) (ls : List Log) (well : IsWell store) (first : store.committed ≡ l ∷ ls) (oldest : last_in l.records ≡ (a, u) ∷ []) where
+module _ (a : Address) (u : Record) (store : Store) (l : Log) (ls : List Log) (all : IsConsistent store) (first : store.committed ≡ l ∷ ls) (oldest : last_in l.records ≡ (a, u) ∷ []) where
   abbrev new : Store
   new = record_passed a l.trx u store
 
@@ -103,7 +105,7 @@ module _ (a : Address) (u : Record) (store : Store) (l : Log) (ls : List Log) (w
   parted = split [] store.lobs (row_before store u.doc) cs (change l.trx a u)
 
   chain : IsChain (row_before store u.doc) (cs ++ change l.trx a u ∷ [])
-  chain = pass_chain a u store l ls well first oldest
+  chain = pass_chain a u store l ls all.well first oldest
 
   abbrev left_rows : List Past
   left_rows = history_behind [] (cleared u.body u.before store.lobs) (row_before store u.doc) cs
@@ -115,7 +117,7 @@ module _ (a : Address) (u : Record) (store : Store) (l : Log) (ls : List Log) (w
   front_on = sym parted.front ∙ history-on store.lobs (row_before store u.doc) cs
 
   same_parts : AllTo l.trx (SameParts store.lobs (cleared u.body u.before store.lobs)) (row_before store u.doc) cs
-  same_parts = own_same a u store l ls well first oldest
+  same_parts = own_same a u store l ls all.well first oldest
 
   -- the rows behind the event, by its row
   rows_are : (row : Row) → row_before new u.doc ≡ row → history new u.doc ≡ history_behind [] (cleared u.body u.before store.lobs) row cs
@@ -124,7 +126,7 @@ module _ (a : Address) (u : Record) (store : Store) (l : Log) (ls : List Log) (w
       ∙ ap₂ (history_behind [] (cleared u.body u.before store.lobs)) is (swept_changes u.body a l.trx u.doc u.doc mid)
 
   swept_so : is_newest a l.trx (row_of store u.doc) ≡ true → u.body ≡ removed → ((row_before store u.doc).state ≡ deleted) × (cs ≡ [])
-  swept_so newest is_removed = swept_well a l.trx u.doc u store cs chain (subst AreNamedOnce (passed_all a u store l ls first oldest) (well.places u.doc)) newest is_removed
+  swept_so newest is_removed = swept_well a l.trx u.doc u store cs chain (subst AreNamedOnce (passed_all a u store l ls first oldest) (all.well.places u.doc)) newest is_removed
 
   pub record_is_passed : Passes l ls u store new
   record_is_passed = record {
@@ -149,8 +151,8 @@ module _ (a : Address) (u : Record) (store : Store) (l : Log) (ls : List Log) (w
             rows_are absent_row gone.0 ∙ ap (history_behind [] (cleared u.body u.before store.lobs) absent_row) so.1,
           )
     ];
-    others = λ d other. pass_others a u store l ls d first oldest other (others_same a u store l ls well first oldest d (λ e. other (sym e)));
-    well = well_passed a u store l ls well first oldest;
+    others = λ d other. pass_others a u store l ls d first oldest other (others_same a u store l ls all.well first oldest d (λ e. other (sym e)));
+    consistent = pass_consistent a u store l ls all first oldest;
     next = next_same u.body;
     commits = commits_same u.body;
     purged = purged_same u.body;
@@ -161,9 +163,9 @@ module _ (a : Address) (u : Record) (store : Store) (l : Log) (ls : List Log) (w
     log_number = refl;
     log_state = refl;
     reads = λ sees d shown_parts f known zero h.
-        (reads_passed a u store l ls (record { doc = d; sees = sees; shown = shown_parts; flight = f } ∷ []) first oldest (well.chains u.doc)
-        (entries_distinct (changes store u.doc) (well.places u.doc))
-        (λ q other frees. before_elsewhere a u store l ls well first oldest q (λ e. other (sym e)) (freed_live u.body (last_kind (row_before store u.doc) cs (change l.trx a u) chain).0 u.before (last_kind (row_before store u.doc) cs (change l.trx a u) chain).1 frees))
+        (reads_passed a u store l ls (record { doc = d; sees = sees; shown = shown_parts; flight = f } ∷ []) first oldest (all.well.chains u.doc)
+        (entries_distinct (changes store u.doc) (all.well.places u.doc))
+        (λ q other frees. before_elsewhere a u store l ls all.well first oldest q (λ e. other (sym e)) (freed_live u.body (last_kind (row_before store u.doc) cs (change l.trx a u) chain).0 u.before (last_kind (row_before store u.doc) cs (change l.trx a u) chain).1 frees))
         ((known, zero), tt) (h, tt)).0;
     shows = λ d some left. by_doc d some left;
   }
@@ -219,7 +221,7 @@ module _ (a : Address) (u : Record) (store : Store) (l : Log) (ls : List Log) (w
               | inr gone ↦ absurd (parted.some (some here) (swept_so gone.2 gone.3).1)
             ])
         | inr other ↦ elim (swept_row u.body a l.trx u.doc d mid) [
-          | inl kept ↦ shows_same d left kept (others_same a u store l ls well first oldest d (λ e. other (sym e))).0
+          | inl kept ↦ shows_same d left kept (others_same a u store l ls all.well first oldest d (λ e. other (sym e))).0
           | inr gone ↦ absurd (other gone.1)
         ]
       ]

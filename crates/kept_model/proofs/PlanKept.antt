@@ -283,7 +283,7 @@ module _ (o : Opening) (script : Script) (e : Engine) (s : ℕ) (kept : IsBegun 
   begun_planned = record {
     calm = kept.calm;
     counts = counts_kept;
-    well = plans.well;
+    consistent = plans.consistent;
     given = given_kept;
     zero = old_same 0 ∙ kept.zero;
     logs = logs_kept;

@@ -11,7 +11,7 @@ use Rattle.history_model.specs.Laws.{IsRun}
 use Rattle.store_data.specs.Store.{Log}
 use Rattle.store_model.specs.History.{Change, Past, changes, changes_among, active_changes, committed_changes, row_before, history_behind, stands, stands_above}
 use Rattle.store_model.specs.History as store
-use Rattle.store_model.proofs.WellBackLemmas.{well_purged}
+use Rattle.store_model.proofs.ConsistentLemmas.{purged_consistent}
 use Rattle.read_model.specs.Flight.{IsFlight}
 use Rattle.read_model.proofs.OtherLemmas.{purged_log_same}
 use Rattle.kept_model.specs.Engine.{ReadView, sees_by, Engine}
@@ -109,7 +109,7 @@ module _ (o : Opening) (script : Script) (run : IsRun o script) (e : Engine) (ke
   purged_keeps = record {
     calm = record { legal = (kept.calm.legal, purged_allowed); commit = refl; restart = refl };
     counts = record { commits = kept.counts.commits; purged = refl; more = kept.counts.more };
-    well = well_purged e.store l ls kept.well first empty;
+    consistent = purged_consistent e.store l ls kept.consistent first empty;
     given = λ d. subst (AllPast (λ x. x < e.store.next_trx)) (sym (same_history d)) (kept.given d);
     zero = part.old_same o script run e kept l ls first begun_is empty 0 kept.zero;
     logs = logs_kept;

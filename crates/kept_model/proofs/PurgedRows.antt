@@ -140,7 +140,7 @@ module _ (o : Opening) (script : Script) (run : IsRun o script) (e : Engine) (ke
       ∙ old
 
   pub distinct : NoLog l.trx ls
-  distinct = (subst AreDistinct first (distinct_parts e.store.active e.store.committed kept.well.logs).1).0
+  distinct = (subst AreDistinct first (distinct_parts e.store.active e.store.committed kept.consistent.well.logs).1).0
 
   pub named_as : names_of e (commit n) ≡ Some l.trx
   named_as = ap (λ (ms : List Log). trx_numbered ms n) first ∙ ap (λ (b : Bool). if b then Some l.trx else trx_numbered ls n) (ap (λ (m : ℕ). nat_eq m n) number_is ∙ self_eq n)
@@ -218,7 +218,7 @@ module _ (o : Opening) (script : Script) (run : IsRun o script) (e : Engine) (ke
       let k : IsStoredBy (known_from o e.store) script e.journal (history o script e.journal d) (front e d) true n (is_old e.store) (names_of e) (store.history e.store d) =
       subst (λ (b : Bool). IsStoredBy (known_from o e.store) script e.journal (history o script e.journal d) (front e d) b n (is_old e.store) (names_of e) (store.history e.store d)) purging_was st in
       let off : OfOwners (λ w. w ≢ commit n) (k.ahead ++ k.left) =
-      none_named (names_of e) (is_old e.store) l.trx (commit n) (k.ahead ++ k.left) (store.history e.store d) named_as (rows_off l.trx [] e.store.lobs (row_before e.store d) (changes e.store d) (kept.well.chains d) (none_left d)) k.named in
+      none_named (names_of e) (is_old e.store) l.trx (commit n) (k.ahead ++ k.left) (store.history e.store d) named_as (rows_off l.trx [] e.store.lobs (row_before e.store d) (changes e.store d) (kept.consistent.well.chains d) (none_left d)) k.named in
       let after : OfOwners (IsAfter e.store.purged) (history o script e.journal d).changes =
       subst (λ (m : ℕ). OfOwners (IsAfter m) (history o script e.journal d).changes) (sym kept.counts.purged) (after_of o script run e.journal d kept.calm.legal) in
       let left_after = of_parts (IsAfter e.store.purged) k.left k.passed (of_parts (IsAfter e.store.purged) k.gone (k.left ++ k.passed) (subst (OfOwners (IsAfter e.store.purged)) k.changes after)).1 in

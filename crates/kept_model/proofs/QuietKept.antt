@@ -85,7 +85,7 @@ module _ (o : Opening) (script : Script) (e : Engine) (kept : Kept o script e) (
   quiet_keeps = record {
     calm = quiet.calm;
     counts = record { commits = kept.counts.commits ∙ sym quiet.commits; purged = kept.counts.purged ∙ sym quiet.purged; more = kept.counts.more };
-    well = kept.well;
+    consistent = kept.consistent;
     given = kept.given;
     zero = kept.zero;
     logs = record {

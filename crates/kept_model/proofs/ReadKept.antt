@@ -96,7 +96,7 @@ module _ (o : Opening) (script : Script) (e : Engine) (kept : Kept o script e) w
     active = λ x stand. ap (λ (b : Bool). nat_lt x e.store.next_trx && not b) (any_stands x e.store.active ∙ stand) ∙ and_false (nat_lt x e.store.next_trx);
     rows = λ d. all_past (λ x. x < e.store.next_trx) _ (store.history e.store d)
         (λ x less. ap₂ (λ (a b : Bool). a && not b) (given x less) (any_stands x e.store.active)
-        ∙ sym (ap (λ (b : Bool). not (stands x e.store.active) && not b) (none_above e.store.commits x e.store.committed kept.well.numbered) ∙ and_true (not (stands x e.store.active)))) (kept.given d);
+        ∙ sym (ap (λ (b : Bool). not (stands x e.store.active) && not b) (none_above e.store.commits x e.store.committed kept.consistent.well.numbered) ∙ and_true (not (stands x e.store.active)))) (kept.given d);
   }
     where
       given : (x : ℕ) → x < e.store.next_trx → nat_lt x e.store.next_trx ≡ true
@@ -126,10 +126,10 @@ module _ (o : Opening) (script : Script) (e : Engine) (kept : Kept o script e) w
       let sees = sees_by (e.sessions s).trx v in
       let st = kept.stored d in
       let old = oldest_old (names_of e) (is_old e.store) (st.ahead ++ st.left) [] e.store.lobs (row_before e.store d) (changes e.store d) st.named in
-      let found = visible_in sees e.store d (kept.well.chains d) (old_seen inside (base_of (row_before e.store d) (changes e.store d)).trx old (oldest_row d)) in (
+      let found = visible_in sees e.store d (kept.consistent.well.chains d) (old_seen inside (base_of (row_before e.store d) (changes e.store d)).trx old (oldest_row d)) in (
         content e.store.lobs found.2 found.0,
         sym (shows sees e.store d found.0 found.1 found.2 found.3) ∙ all_shown (touches d (own script s e.journal)) refl,
-        opened_kept sees (document e.store d) found.0 found.1 found.2 (entries_distinct (changes e.store d) (kept.well.places d)) found.3,
+        opened_kept sees (document e.store d) found.0 found.1 found.2 (entries_distinct (changes e.store d) (kept.consistent.well.places d)) found.3,
       )
     where
       among_of : (x : ℕ) → is_old e.store x ≡ true → is_among e.store (floor e.store) x ≡ true
@@ -213,7 +213,7 @@ module _ (o : Opening) (script : Script) (e : Engine) (kept : Kept o script e) w
     read_keeps = record {
       calm = kept.calm;
       counts = kept.counts;
-      well = kept.well;
+      consistent = kept.consistent;
       given = kept.given;
       zero = kept.zero;
       logs = record {
@@ -264,7 +264,7 @@ module _ (o : Opening) (script : Script) (e : Engine) (kept : Kept o script e) w
             is = rd.is;
             parts = rd.parts;
             shows = rd.shows;
-            flight = event_kept (sees_by (e.sessions s).trx rd.view) (document e.store d) rd.parts f (entries_distinct (changes e.store d) (kept.well.places d)) rd.flight;
+            flight = event_kept (sees_by (e.sessions s).trx rd.view) (document e.store d) rd.parts f (entries_distinct (changes e.store d) (kept.consistent.well.places d)) rd.flight;
           })))
           (λ t apart. kept.reads t);
       making = by_session (IsMaking o script e.journal e.store) s x' e.sessions (λ q left r h. absurd (cc h)) (λ t apart. kept.making t);

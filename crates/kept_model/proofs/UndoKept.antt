@@ -198,7 +198,7 @@ module _ (o : Opening) (script : Script) (e : Engine) (kept : Kept o script e) (
   undo_keeps = record {
     calm = kept.calm;
     counts = counts_kept;
-    well = undoes.well;
+    consistent = undoes.consistent;
     given = given_kept;
     zero = part.old_same o script e kept s trx place u next undoes v task_is is newest held 0 ∙ kept.zero;
     logs = logs_kept;

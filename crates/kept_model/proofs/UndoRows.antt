@@ -206,7 +206,7 @@ module _ (o : Opening) (script : Script) (e : Engine) (kept : Kept o script e) (
       (has_two [] e.store.lobs (row_before e.store u.doc) (change trx place u) (changes (without_newest trx u e.store) u.doc))
 
   pub first_trx : two.first.trx ≡ trx
-  first_trx = two.trx ∙ (subst (IsChain (row_before e.store u.doc)) (changes-popped trx place u e.store newest) (kept.well.chains u.doc)).0.trx
+  first_trx = two.trx ∙ (subst (IsChain (row_before e.store u.doc)) (changes-popped trx place u e.store newest) (kept.consistent.well.chains u.doc)).0.trx
 
   -- the rest of the rows, or an absent row
   pub all_new : (P : List Past → Type 0) → P (two.second ∷ two.rest) → (two.rest ≡ [] → two.second.bytes ≡ None → P (record { trx = 0; bytes = None } ∷ [])) → P (store.history next u.doc)

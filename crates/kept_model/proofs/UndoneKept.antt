@@ -76,7 +76,7 @@ module _ (o : Opening) (script : Script) (run : IsRun o script) (e : Engine) (ke
   undone_keeps = record {
     calm = ending.calm;
     counts = record { commits = kept.counts.commits ∙ sym ending.commits; purged = kept.counts.purged ∙ sym ending.purged; more = kept.counts.more };
-    well = kept.well;
+    consistent = kept.consistent;
     given = kept.given;
     zero = kept.zero;
     logs = record {

@@ -16,7 +16,6 @@ use Rattle.kept_model.specs.Views.{AllPast, IsViewIn, IsViewed, IsRead, will_sho
 use Rattle.kept_model.specs.Kept.{Kept}
 use Rattle.kept_model.specs.Plans.{at_work}
 use Rattle.kept_model.specs.Works.{Works, work_event}
-use Rattle.store_model.proofs.WellLemmas.{well_lobs}
 use Rattle.kept_model.proofs.StoredLemmas.{half_stored}
 use Rattle.kept_model.proofs.PlanKept.{stored_over}
 use Rattle.kept_model.proofs.AnswerRows.{rows_front}
@@ -115,7 +114,7 @@ module _ (o : Opening) (script : Script) (e : Engine) (kept : Kept o script e) (
   work_keeps = record {
     calm = kept.calm;
     counts = record { commits = kept.counts.commits; purged = kept.counts.purged; more = kept.counts.more };
-    well = well_lobs f e.store kept.well;
+    consistent = works.consistent;
     given = λ q. rows_kept (λ x. x < e.store.next_trx) q (kept.given q);
     zero = kept.zero;
     logs = record {

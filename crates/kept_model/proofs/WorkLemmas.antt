@@ -1,5 +1,5 @@
 -- The further events of a change, by its kind: a piece of a new LOB is added, a version is pushed.
-use Rattle.std.proofs.Common.{◌≡◌, ◌≢◌, inl, inr, ℕ, false, List, ◌∷◌, Option, refl, sym, ap, subst, ◌∙◌}
+use Rattle.std.proofs.Common.{◌≡◌, ◌≢◌, inl, inr, ℕ, false, List, ◌∷◌, ◌++◌, Option, Some, refl, sym, ap, subst, ◌∙◌, arith}
 use Rattle.std.proofs.lemmas.Bool.{cases_eq}
 use Rattle.page_model.specs.Pages.{Address}
 use Rattle.store_data.specs.Store.{Version, Piece, Lob, Store}
@@ -9,7 +9,12 @@ use Rattle.store_data.specs.Pieces.{pushed}
 use Rattle.store_model.specs.Steps.{on_lob, on_lobs, with_nodes, with_piece, at_piece}
 use Rattle.store_model.specs.Behind.{AllRows, IsElsewhere}
 use Rattle.store_model.specs.Keeps.{IsVersioned, Makes}
-use Rattle.store_model.specs.Well.{IsWell}
+use Rattle.store_model.specs.Consistent.{IsConsistent}
+use Rattle.store_model.specs.Lobs.{lob_of}
+use Rattle.store_model.specs.Owned.{AreDifferent, data_page, data_pages}
+use Rattle.store_model.specs.Takes.{AreUnowned, piece_of}
+use Rattle.store_model.specs.Versions.{AreOlderUpTo}
+use Rattle.store_model.proofs.ConsistentLemmas.{add_consistent, push_consistent}
 use Rattle.store_model.proofs.FurtherLemmas.{same_elsewhere}
 use Rattle.store_model.proofs.GivesLemmas.{newest_chain, made_elsewhere, made_live, others_elsewhere, version_below, version_live, push_older, push_others, piece_older, piece_others}
 use Rattle.read_model.specs.Document.{Sees}
@@ -20,11 +25,12 @@ use Rattle.read_model.proofs.EventLemmas.{kept_where_touched}
 use Rattle.read_model.proofs.StoreLobLemmas.{add_touches, push_touches}
 use Rattle.read_model.proofs.StoreLemmas.{seen_elsewhere, before_elsewhere, before_older}
 use Rattle.kept_model.specs.Works.{Works}
+use Rattle.kept_model.proofs.OwnLemmas.{owned_there, version_there}
 use Rattle.kept_model.proofs.KindLemmas.{will_same}
 
-module _ (store : Store) (trx d : ℕ) (c : Change) (cs : List Change) (well : IsWell store) (e : changes store d ≡ c ∷ cs) (mine : c.trx ≡ trx) where
+module _ (store : Store) (trx d : ℕ) (c : Change) (cs : List Change) (all : IsConsistent store) (e : changes store d ≡ c ∷ cs) (mine : c.trx ≡ trx) where
   pub row_trx : (row_before store d).trx ≡ trx
-  row_trx = (newest_chain store d c cs well e).0.trx ∙ mine
+  row_trx = (newest_chain store d c cs all.well e).0.trx ∙ mine
 
   -- a read of the document, or of another
   pub by_touch : (f : List Lob → List Lob) → ((sees : Sees) → sees (row_before store d).trx ≡ false → Touches sees (document store d) (document (on_lobs f store) d))
@@ -37,34 +43,42 @@ module _ (store : Store) (trx d : ℕ) (c : Change) (cs : List Change) (well : I
   ]
 
   -- a piece is added to the LOB that the change makes
-  pub piece_works : (page : ℕ) → Makes page c.undo.body → (piece : Piece) (index : List ℕ) (free : List Address)
-      → Works trx d (on_lob page (λ l. with_nodes index free (with_piece piece l))) store
-  piece_works page makes piece index free =
-      let live_row = made_live store d page c cs well e makes in
-      let apart : (q : ℕ) → q ≢ d → AllRows (IsElsewhere page) store q = λ q other. others_elsewhere store d q page well (λ g. other (sym g)) live_row.0 live_row.1 in
+  pub piece_works : (page : ℕ) → Makes page c.undo.body → (m : Lob) → lob_of store.lobs page ≡ Some m → (piece : Piece) (taken : List ℕ) (free : List Address)
+      → AreOlderUpTo m.version (piece.head ∷ piece.older) → AreDifferent (taken ++ data_pages m.page (piece.head ∷ piece.older)) → AreUnowned (taken ++ data_pages m.page (piece.head ∷ piece.older)) store
+      → Works trx d (on_lob page (λ l. with_nodes (taken ++ m.index) free (with_piece piece l))) store
+  piece_works page makes m there piece taken free up different unowned =
+      let index = taken ++ m.index in
+      let live_row = made_live store d page c cs all.well e makes in
+      let apart : (q : ℕ) → q ≢ d → AllRows (IsElsewhere page) store q = λ q other. others_elsewhere store d q page all.well (λ g. other (sym g)) live_row.0 live_row.1 in
       record {
-        older = piece_older store d c cs well e page makes piece index free;
-        others = λ q other. piece_others store d c cs well e page makes piece index free q (λ g. other (sym g));
+        consistent = add_consistent page m store all there (owned_there store page m all there) piece taken free up different unowned;
+        older = piece_older store d c cs all.well e page makes piece index free;
+        others = λ q other. piece_others store d c cs all.well e page makes piece index free q (λ g. other (sym g));
         reads = by_touch (on_lob page (λ l. with_nodes index free (with_piece piece l)))
-            (λ sees unseen. add_touches sees store d page piece index free (before_elsewhere sees store d page unseen (made_elsewhere store d page c cs well e makes)))
+            (λ sees unseen. add_touches sees store d page piece index free (before_elsewhere sees store d page unseen (made_elsewhere store d page c cs all.well e makes)))
             (λ sees q other. add_touches sees store q page piece index free (seen_elsewhere sees store q page (apart q other)));
         elsewhere = λ q other left. will_same left store.lobs (on_lob page (λ l. with_nodes index free (with_piece piece l)) store.lobs) (row_before store q)
             (same_elsewhere page (λ l. with_nodes index free (with_piece piece l)) store.lobs (λ l. refl) (row_before store q) (apart q other).0);
       }
 
   -- a version is pushed into the LOB that the change has raised
-  pub push_works : IsVersioned c.undo.body → (k : ℕ) (node : Address) (v : Version) (index : List ℕ) (free : List Address) → v.number ≡ (row_before store d).lob.version
-      → Works trx d (on_lob (row_before store d).lob.page (λ l. with_nodes index free (at_piece k (pushed node v) l))) store
-  push_works versioned k node v index free number =
+  pub push_works : IsVersioned c.undo.body → (m : Lob) → lob_of store.lobs (row_before store d).lob.page ≡ Some m
+      → (k : ℕ) (p : Piece) → piece_of k m.pieces ≡ Some p → (node : Address) (v : Version) (taken : List ℕ) (free : List Address) → v.number ≡ (row_before store d).lob.version
+      → AreDifferent (taken ++ data_page m.page v) → AreUnowned (taken ++ data_page m.page v) store
+      → Works trx d (on_lob (row_before store d).lob.page (λ l. with_nodes (taken ++ m.index) free (at_piece k (pushed node v) l))) store
+  push_works versioned m there k p kth node v taken free number different unowned =
+      let index = taken ++ m.index in
       let page = (row_before store d).lob.page in
       let apart : (q : ℕ) → q ≢ d → AllRows (IsElsewhere page) store q =
-      λ q other. others_elsewhere store d q page well (λ g. other (sym g)) (version_live store d c cs well e versioned) refl in
+      λ q other. others_elsewhere store d q page all.well (λ g. other (sym g)) (version_live store d c cs all.well e versioned) refl in
       record {
-        older = push_older store d c cs well e versioned k node v index free number;
-        others = λ q other. push_others store d c cs well e versioned k node v index free q (λ g. other (sym g));
+        consistent = push_consistent page m store all there (owned_there store page m all there) k p node v taken free kth
+            (let same = version_there store d m all (version_live store d c cs all.well e versioned) there in omega (arith, number, same)) different unowned;
+        older = push_older store d c cs all.well e versioned k node v index free number;
+        others = λ q other. push_others store d c cs all.well e versioned k node v index free q (λ g. other (sym g));
         reads = by_touch (on_lob page (λ l. with_nodes index free (at_piece k (pushed node v) l)))
             (λ sees unseen. push_touches sees store d page k node v index free (before_older sees store d page v.number unseen
-            (subst (λ (n : ℕ). Rattle.store_model.specs.Behind.AllBefore (Rattle.store_model.specs.Behind.IsBelow page n) (changes store d)) (sym number) (version_below store d c cs well e versioned))))
+            (subst (λ (n : ℕ). Rattle.store_model.specs.Behind.AllBefore (Rattle.store_model.specs.Behind.IsBelow page n) (changes store d)) (sym number) (version_below store d c cs all.well e versioned))))
             (λ sees q other. push_touches sees store q page k node v index free (λ above older w visible is_live here. absurd (seen_elsewhere sees store q page (apart q other) above older w visible is_live here)));
         elsewhere = λ q other left. will_same left store.lobs (on_lob page (λ l. with_nodes index free (at_piece k (pushed node v) l)) store.lobs) (row_before store q)
             (same_elsewhere page (λ l. with_nodes index free (at_piece k (pushed node v) l)) store.lobs (λ l. refl) (row_before store q) (apart q other).0);

@@ -3,7 +3,7 @@
 --     IsBegun      all parts of Kept, but that the session's log may be empty
 use Rattle.std.specs.Prelude.{◌≡◌, ℕ, true, false, Some, nat_eq}
 use Rattle.journal_model.specs.Journal.{Script, Opening}
-use Rattle.store_model.specs.Well.{IsWell}
+use Rattle.store_model.specs.Consistent.{IsConsistent}
 use Rattle.store_model.specs.Events.{log_begun}
 use Rattle.kept_model.specs.Engine.{Session, Engine, with_session}
 use Rattle.kept_model.specs.Names.{is_old, AreLogs}
@@ -26,7 +26,7 @@ log_event s page e = record e {
 pub record IsBegun (s : ℕ) (o : Opening) (script : Script) (e : Engine) : Type 0 where
   pub calm : IsCalm o script e.journal
   pub counts : AreCounts o e.journal e.store
-  pub well : IsWell e.store
+  pub consistent : IsConsistent e.store
   pub given : (d : ℕ) → AreGiven e.store d
   pub zero : is_old e.store 0 ≡ true
   pub logs : AreLogs e.store e.sessions

@@ -6,6 +6,7 @@ use Rattle.store_data.specs.Store.{Log, Lob, Store}
 use Rattle.store_data.specs.Pieces.{Part}
 use Rattle.store_model.specs.History.{Past, history, row_before}
 use Rattle.store_model.specs.Steps.{on_lobs}
+use Rattle.store_model.specs.Consistent.{IsConsistent}
 use Rattle.read_model.specs.Document.{Sees}
 use Rattle.read_model.specs.Flight.{Flight, IsFlight}
 use Rattle.read_model.specs.OfStore.{document}
@@ -20,6 +21,7 @@ pub record Drops (l : Log) (d : ℕ) (f : List Lob → List Lob) (store : Store)
   pub before : Past
   pub was : history store d ≡ newer ++ (own ∷ before ∷ [])
   pub mine : own.trx ≡ l.trx
+  pub consistent : IsConsistent (on_lobs f store)
   pub same : (q : ℕ) → SameTrx (history store q) (history (on_lobs f store) q)
   pub bytes : (q : ℕ) → SameTo l.trx (history store q) (history (on_lobs f store) q)
   pub reads : (sees : Sees) (q : ℕ) (parts : Option (List Part)) (fl : Flight) → sees l.trx ≡ true

@@ -8,6 +8,7 @@ use Rattle.store_data.specs.Pieces.{Part}
 use Rattle.store_model.specs.History.{row_before, history}
 use Rattle.store_model.specs.Steps.{on_lobs, all_but_first}
 use Rattle.store_model.specs.Moves.{KeepsOlder, KeepsAll}
+use Rattle.store_model.specs.Consistent.{IsConsistent}
 use Rattle.read_model.specs.Document.{Sees}
 use Rattle.read_model.specs.Flight.{Flight, IsFlight}
 use Rattle.read_model.specs.OfStore.{document}
@@ -29,6 +30,7 @@ pub record Halves (trx d : ℕ) (turn : ℕ → Flight → Flight) (f : List Lob
     → List Lob) (store : Store) : Type 0 where
   pub mine : (row_before store d).trx ≡ trx
   pub behind : all_but_first (history store d) ≢ []
+  pub consistent : IsConsistent (on_lobs f store)
   pub older : KeepsOlder d store (on_lobs f store)
   pub others : (q : ℕ) → q ≢ d → KeepsAll q store (on_lobs f store)
   pub reads : (sees : Sees) (q : ℕ) (parts : Option (List Part)) (fl : Flight) → sees trx ≡ false

@@ -11,8 +11,8 @@ use Rattle.journal_model.specs.Legal.{IsLegal, commit_due, restart_due}
 use Rattle.journal_model.specs.Ceiling.{ceiling}
 use Rattle.store_data.specs.Store.{Store}
 use Rattle.store_model.specs.History.{history}
-use Rattle.store_model.specs.Owned.{owned, AreSound}
-use Rattle.store_model.specs.Well.{IsWell}
+use Rattle.store_model.specs.Owned.{owned}
+use Rattle.store_model.specs.Consistent.{IsConsistent}
 use Rattle.kept_model.specs.Engine.{Session, Engine}
 use Rattle.kept_model.specs.Names.{is_old, AreLogs}
 use Rattle.kept_model.specs.Stored.{IsStored}
@@ -51,8 +51,8 @@ pub record KeptAt (due : Option ℕ) (o : Opening) (script : Script) (e : Engine
   -- the journal
   pub calm : IsCalmAt due o script e.journal
   pub counts : AreCounts o e.journal e.store
-  -- the store by itself
-  pub well : IsWell e.store
+  -- the store by itself, with no page owned twice
+  pub consistent : IsConsistent e.store
   pub given : (d : ℕ) → AreGiven e.store d
   -- the id of an absent row is no transaction's
   pub zero : is_old e.store 0 ≡ true
@@ -70,9 +70,8 @@ pub record KeptAt (due : Option ℕ) (o : Opening) (script : Script) (e : Engine
 abbrev pub Kept : Opening → Script → Engine → Type 0
 Kept o script e = KeptAt None o script e
 
--- what pages are owned, which versions are held, and how many pages are in use
+-- which versions are held, and how many pages are in use
 pub record KeptPages (o : Opening) (script : Script) (e : Engine) (k : Kept o script e) : Type 0
   where
-    pub sound : AreSound e.store
     pub held : (d : ℕ) → IsHeld o script e d (k.stored d)
     pub room : IsRoomy o script e

@@ -11,7 +11,7 @@ use Rattle.store_model.specs.Steps.{log_of}
 use Rattle.store_model.specs.Undo.{is_gone, without_newest}
 use Rattle.store_model.specs.Moves.{KeepsAll}
 use Rattle.store_model.specs.Keeps.{Restores}
-use Rattle.store_model.specs.Well.{IsWell}
+use Rattle.store_model.specs.Consistent.{IsConsistent}
 use Rattle.read_model.specs.Document.{Sees}
 use Rattle.read_model.specs.Flight.{Flight, IsFlight}
 use Rattle.read_model.specs.OfStore.{document}
@@ -25,7 +25,7 @@ pub record Ends (trx : ℕ) (place : Address) (u : Record) (old new : Store) : T
   pub last : is_gone (without_newest trx u old) u.before.state u.before ≡ true
       → changes (without_newest trx u old) u.doc ≡ []
   pub others : (d : ℕ) → d ≢ u.doc → KeepsAll d old new
-  pub well : IsWell new
+  pub consistent : IsConsistent new
   pub next : new.next_trx ≡ old.next_trx
   pub commits : new.commits ≡ old.commits
   pub purged : new.purged ≡ old.purged

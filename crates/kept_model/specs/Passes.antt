@@ -5,7 +5,7 @@ use Rattle.store_data.specs.Store.{Record, Log, Store}
 use Rattle.store_data.specs.Pieces.{Part}
 use Rattle.store_model.specs.History.{Past, history, row_before}
 use Rattle.store_model.specs.Moves.{KeepsAll}
-use Rattle.store_model.specs.Well.{IsWell}
+use Rattle.store_model.specs.Consistent.{IsConsistent}
 use Rattle.read_model.specs.Document.{Sees}
 use Rattle.read_model.specs.Flight.{Flight, IsFlight}
 use Rattle.read_model.specs.OfStore.{document}
@@ -28,7 +28,7 @@ pub record Passes (l : Log) (ls : List Log) (u : Record) (old new : Store) : Typ
   pub now : (history new u.doc ≡ middle) ⊎ ((p : Past) × (middle ≡ p ∷ []) × (p.bytes ≡ None)
       × (history new u.doc ≡ record { trx = 0; bytes = None } ∷ []))
   pub others : (d : ℕ) → d ≢ u.doc → KeepsAll d old new
-  pub well : IsWell new
+  pub consistent : IsConsistent new
   pub next : new.next_trx ≡ old.next_trx
   pub commits : new.commits ≡ old.commits
   pub purged : new.purged ≡ old.purged

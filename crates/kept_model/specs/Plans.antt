@@ -9,7 +9,7 @@ use Rattle.store_model.specs.History.{row_before, stands}
 use Rattle.store_model.specs.Steps.{log_of}
 use Rattle.store_model.specs.Events.{Plan}
 use Rattle.store_model.specs.Moves.{Begins}
-use Rattle.store_model.specs.Well.{IsWell}
+use Rattle.store_model.specs.Consistent.{IsConsistent}
 use Rattle.read_model.specs.Document.{Sees}
 use Rattle.read_model.specs.Flight.{Flight, IsFlight}
 use Rattle.read_model.specs.OfStore.{document}
@@ -19,7 +19,7 @@ use Rattle.kept_model.specs.Views.{will_show}
 
 pub record Plans (p : Plan) (old new : Store) : Type 0 where
   pub begins : Begins p old new
-  pub well : IsWell new
+  pub consistent : IsConsistent new
   pub next : new.next_trx ≡ old.next_trx
   pub commits : new.commits ≡ old.commits
   pub purged : new.purged ≡ old.purged

@@ -14,7 +14,8 @@ ghost use Rattle.store_data.specs.Pieces.{Part};
 ghost use Rattle.store_model.specs.History.{row_before};
 ghost use Rattle.store_model.specs.Events.{Plan};
 ghost use Rattle.store_model.specs.Moves.{MayChange, IsNewest};
-ghost use Rattle.store_model.specs.Well.{IsWell};
+ghost use Rattle.store_model.specs.Owned.{owned, IsNotAmong};
+ghost use Rattle.store_model.specs.Consistent.{IsConsistent};
 ghost use Rattle.read_model.specs.Flight.{Flight};
 ghost use Rattle.kept_model.specs.Engine.{ReadView, Left, nothing, idle, fetching, making, reading, undoing, Session, Engine};
 ghost use Rattle.kept_model.specs.Names.{is_old};
@@ -52,11 +53,13 @@ pub fn plan_keeps()
         → Kept o script (plan_event s p left r next e) }
 {}
 
-/// The planning event of a transaction's first change, in which its undo log is begun.
+/// The planning event of a transaction's first change, in which its undo log is begun, on a page
+/// that the store doesn't own.
 pub fn first_plan_keeps()
     ensures { (o : Opening) (script : Script) (e : Engine) → Kept o script e
         → (s page : ℕ) (p : Plan)
-        → (left : Left) (r : Reply) (next : Store) → Plans p (log_event s page e).store next
+        → (left : Left) (r : Reply) (next : Store) → IsNotAmong page (owned e.store)
+        → Plans p (log_event s page e).store next
         → (read : List Part) → (e.sessions s).task ≡ fetching p.doc read
         → (e.sessions s).trx ≡ None → p.trx ≡ e.store.next_trx
         → (c : Call) → under_way script s e.journal ≡ Some (call c) → call_doc c ≡ p.doc
@@ -66,14 +69,15 @@ pub fn first_plan_keeps()
         → Kept o script (plan_event s p left r next (log_event s page e)) }
 {}
 
-/// With its log begun the store is well formed, and the session may change the document that it
-/// has the lock of.
+/// With its log begun the store is consistent, and the session may change the document that it has
+/// the lock of.
 pub fn log_may_change()
     ensures { (o : Opening) (script : Script) (e : Engine) → Kept o script e
         → (s page : ℕ) (p : Plan)
         → (read : List Part) → (e.sessions s).task ≡ fetching p.doc read
         → (e.sessions s).trx ≡ None → p.trx ≡ e.store.next_trx
-        → IsWell (log_event s page e).store × MayChange p (log_event s page e).store }
+        → IsNotAmong page (owned e.store)
+        → IsConsistent (log_event s page e).store × MayChange p (log_event s page e).store }
 {}
 
 /// A further event of a change that is planned, which changes LOBs alone; of any kind.

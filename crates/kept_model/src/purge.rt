@@ -4,14 +4,15 @@ ghost use Rattle.page_model.specs.Pages.{Address};
 ghost use Rattle.journal_model.specs.Journal.{Script, Opening, Purged};
 ghost use Rattle.journal_model.specs.Legal.{Allowed};
 ghost use Rattle.history_model.specs.Laws.{IsRun};
-ghost use Rattle.store_data.specs.Store.{Lob, Record, Log, Store};
+ghost use Rattle.store_data.specs.Store.{Piece, Lob, Record, Log, Store};
 ghost use Rattle.store_data.specs.Pieces.{piece_at, dropped};
 ghost use Rattle.store_model.specs.Lobs.{lob_of};
 ghost use Rattle.store_model.specs.Steps.{last_in, on_lob, at_piece, without_piece, without_index};
 ghost use Rattle.store_model.specs.Behind.{AtPiece};
 ghost use Rattle.store_model.specs.Keeps.{IsVersioned, Frees};
 ghost use Rattle.store_model.specs.Undo.{record_passed};
-ghost use Rattle.store_model.specs.Well.{IsWell};
+ghost use Rattle.store_model.specs.Consistent.{IsConsistent};
+ghost use Rattle.store_model.specs.Takes.{piece_of};
 ghost use Rattle.kept_model.specs.Engine.{ReadView, Engine};
 ghost use Rattle.kept_model.specs.Names.{is_begun, is_old};
 ghost use Rattle.kept_model.specs.Passes.{Passes, pass_event};
@@ -37,7 +38,7 @@ pub fn pass_keeps()
 
 /// Such an event of a store, for every kind of record.
 pub fn records_are_passed()
-    ensures { (a : Address) (u : Record) (store : Store) (l : Log) (ls : List Log) → IsWell store
+    ensures { (a : Address) (u : Record) (store : Store) (l : Log) (ls : List Log) → IsConsistent store
         → store.committed ≡ l ∷ ls → last_in l.records ≡ (a, u) ∷ []
         → Passes l ls u store (record_passed a l.trx u store) }
 {}
@@ -72,19 +73,22 @@ pub fn drop_keeps()
 /// the change finds its version without it.
 pub fn purge_goes_on()
     ensures piece { (a : Address) (u : Record) (store : Store) (l : Log) (ls : List Log)
-        → IsWell store → store.committed ≡ l ∷ ls → last_in l.records ≡ (a, u) ∷ []
-        → Frees u.body → (free : List Address)
-        → Drops l u.doc
+        → IsConsistent store → store.committed ≡ l ∷ ls → last_in l.records ≡ (a, u) ∷ []
+        → Frees u.body → (m : Lob) → lob_of store.lobs u.before.lob.page ≡ Some m
+        → (free : List Address) → Drops l u.doc
         (on_lob u.before.lob.page (λ m. record (without_piece m) { free = free })) store }
     ensures index { (a : Address) (u : Record) (store : Store) (l : Log) (ls : List Log)
-        → IsWell store → store.committed ≡ l ∷ ls → last_in l.records ≡ (a, u) ∷ []
-        → Frees u.body → Drops l u.doc (on_lob u.before.lob.page without_index) store }
+        → IsConsistent store → store.committed ≡ l ∷ ls → last_in l.records ≡ (a, u) ∷ []
+        → Frees u.body → (m : Lob) → lob_of store.lobs u.before.lob.page ≡ Some m
+        → (i : ℕ) (is : List ℕ) → m.index ≡ i ∷ is
+        → Drops l u.doc (on_lob u.before.lob.page without_index) store }
     ensures version { (a : Address) (u : Record) (store : Store) (l : Log) (ls : List Log)
-        → IsWell store → store.committed ≡ l ∷ ls → last_in l.records ≡ (a, u) ∷ []
+        → IsConsistent store → store.committed ≡ l ∷ ls → last_in l.records ≡ (a, u) ∷ []
         → (k : ℕ) (free : List Address) → IsVersioned u.body
         → ((m : Lob) → lob_of store.lobs u.before.lob.page ≡ Some m
         → AtPiece k (λ p. is_some (piece_at (dropped p) (suc u.before.lob.version)) ≡ true)
         m.pieces)
-        → Drops l u.doc
+        → (m : Lob) → lob_of store.lobs u.before.lob.page ≡ Some m
+        → (p : Piece) → piece_of k m.pieces ≡ Some p → Drops l u.doc
         (on_lob u.before.lob.page (λ m. record (at_piece k dropped m) { free = free })) store }
 {}

@@ -4,7 +4,7 @@ ghost use Rattle.page_model.specs.Pages.{Address};
 ghost use Rattle.journal_model.specs.Journal.{Script, Opening, Undoer, by_rollback, by_deadlock, by_end, done, Entry, Did, Undone};
 ghost use Rattle.journal_model.specs.Part.{unanswered};
 ghost use Rattle.history_model.specs.Laws.{IsRun};
-ghost use Rattle.store_data.specs.Store.{Lob, Run, Body, versioned, patched, removed, Record, Store};
+ghost use Rattle.store_data.specs.Store.{Version, Piece, Lob, Run, Body, versioned, patched, removed, Record, Store};
 ghost use Rattle.store_model.specs.Undo.{undo_ended};
 ghost use Rattle.store_model.specs.Behind.{AllRows, AtPiece};
 ghost use Rattle.store_model.specs.Keeps.{Makes};
@@ -13,7 +13,9 @@ ghost use Rattle.store_model.specs.History.{Change, changes, row_before};
 ghost use Rattle.store_data.specs.Pieces.{popped};
 ghost use Rattle.store_model.specs.Steps.{on_lob, at_piece, without_piece, without_index};
 ghost use Rattle.store_model.specs.Moves.{IsNewest, IsUntouched};
-ghost use Rattle.store_model.specs.Well.{IsWell};
+ghost use Rattle.store_model.specs.Consistent.{IsConsistent};
+ghost use Rattle.store_model.specs.Takes.{piece_of};
+ghost use Rattle.store_model.specs.Versions.{IsLowered};
 ghost use Rattle.kept_model.specs.Engine.{undoing, Engine};
 ghost use Rattle.kept_model.specs.Names.{is_old};
 ghost use Rattle.read_model.specs.Flight.{Flight};
@@ -38,12 +40,12 @@ pub fn last_keeps()
 /// Such an event of a store, of the kinds whose records are undone by one event.
 pub fn last_records_are_undone()
     ensures patched { (trx : ℕ) (place : Address) (u : Record) (store : Store) (old : List Run)
-        → u.body ≡ patched old → IsWell store → IsNewest trx place u store
+        → u.body ≡ patched old → IsConsistent store → IsNewest trx place u store
         → HasOne trx place u store.active
         → ((d : ℕ) → d ≢ u.doc → AllRows (IsUntouched old store.lobs) store d)
         → Ends trx place u store (undo_ended trx u store) }
     ensures removed { (trx : ℕ) (place : Address) (u : Record) (store : Store) → u.body ≡ removed
-        → IsWell store → IsNewest trx place u store → HasOne trx place u store.active
+        → IsConsistent store → IsNewest trx place u store → HasOne trx place u store.active
         → Ends trx place u store (undo_ended trx u store) }
 {}
 
@@ -82,10 +84,12 @@ pub fn half_keeps()
 /// Such events: a version is popped, and reads that were led to its node go on at the head; a piece
 /// of a new LOB is freed, or an index page of it.
 pub fn halves_are_undone()
-    ensures version { (store : Store) (trx d : ℕ) (c : Change) (cs : List Change) → IsWell store
+    ensures version { (store : Store) (trx d : ℕ) (c : Change) (cs : List Change) → IsConsistent store
         → changes store d ≡ c ∷ cs → c.trx ≡ trx → (pieces : ℕ) (touched : List ℕ)
         → c.undo.body ≡ versioned pieces touched
-        → (k : ℕ) (node head : Address) (free : List Address)
+        → (m : Lob) → lob_of store.lobs (row_before store d).lob.page ≡ Some m
+        → (k : ℕ) (p : Piece) (x : Version) (xs : List Version) → piece_of k m.pieces ≡ Some p
+        → p.older ≡ x ∷ xs → (node head : Address) (free : List Address)
         → (row_before store d).lob.page ≡ c.undo.before.lob.page
         → ((l : Lob) → lob_of store.lobs (row_before store d).lob.page ≡ Some l
         → AtPiece k (λ p. (row_before store d).lob.version ≤ p.head.number) l.pieces)
@@ -95,31 +99,36 @@ pub fn halves_are_undone()
         → AtOthers (HasNoNode node) (pieces_at store.lobs q))
         → Halves trx d (λ q. moved node head) (on_lob (row_before store d).lob.page
         (λ l. record (at_piece k popped l) { free = free })) store }
-    ensures piece { (store : Store) (trx d : ℕ) (c : Change) (cs : List Change) → IsWell store
+    ensures piece { (store : Store) (trx d : ℕ) (c : Change) (cs : List Change) → IsConsistent store
         → changes store d ≡ c ∷ cs → c.trx ≡ trx → (page : ℕ) → Makes page c.undo.body
-        → (free : List Address)
+        → (m : Lob) → lob_of store.lobs page ≡ Some m → (free : List Address)
         → Halves trx d (λ q f. f) (on_lob page (λ l. record (without_piece l) { free = free }))
         store }
-    ensures index { (store : Store) (trx d : ℕ) (c : Change) (cs : List Change) → IsWell store
+    ensures index { (store : Store) (trx d : ℕ) (c : Change) (cs : List Change) → IsConsistent store
         → changes store d ≡ c ∷ cs → c.trx ≡ trx → (page : ℕ) → Makes page c.undo.body
+        → (m : Lob) → lob_of store.lobs page ≡ Some m
+        → (i : ℕ) (is : List ℕ) → m.index ≡ i ∷ is
         → Halves trx d (λ q f. f) (on_lob page without_index) store }
 {}
 
 /// The last undo event of a record that made a LOB, by Insert or Full, or raised a version; where
-/// its log has more, and where it is the last one.
+/// its log has more, and where it is the last one. A version that was raised goes back once no entry
+/// of the LOB has it.
 pub fn lob_records_are_undone()
-    ensures made { (trx : ℕ) (place : Address) (u : Record) (store : Store) → IsWell store
+    ensures made { (trx : ℕ) (place : Address) (u : Record) (store : Store) → IsConsistent store
         → IsNewest trx place u store → (page : ℕ) → Makes page u.body
         → HasMore trx place u store.active → Undoes trx place u store (undo_ended trx u store) }
-    ensures last_made { (trx : ℕ) (place : Address) (u : Record) (store : Store) → IsWell store
+    ensures last_made { (trx : ℕ) (place : Address) (u : Record) (store : Store) → IsConsistent store
         → IsNewest trx place u store → (page : ℕ) → Makes page u.body
         → HasOne trx place u store.active → Ends trx place u store (undo_ended trx u store) }
-    ensures raised { (trx : ℕ) (place : Address) (u : Record) (store : Store) → IsWell store
+    ensures raised { (trx : ℕ) (place : Address) (u : Record) (store : Store) → IsConsistent store
         → IsNewest trx place u store → (pieces : ℕ) (touched : List ℕ)
-        → u.body ≡ versioned pieces touched → HasMore trx place u store.active
+        → u.body ≡ versioned pieces touched → IsLowered u.body u.before store.lobs
+        → HasMore trx place u store.active
         → Undoes trx place u store (undo_ended trx u store) }
-    ensures last_raised { (trx : ℕ) (place : Address) (u : Record) (store : Store) → IsWell store
+    ensures last_raised { (trx : ℕ) (place : Address) (u : Record) (store : Store) → IsConsistent store
         → IsNewest trx place u store → (pieces : ℕ) (touched : List ℕ)
-        → u.body ≡ versioned pieces touched → HasOne trx place u store.active
+        → u.body ≡ versioned pieces touched → IsLowered u.body u.before store.lobs
+        → HasOne trx place u store.active
         → Ends trx place u store (undo_ended trx u store) }
 {}

@@ -41,7 +41,7 @@ use Rattle.store_model.proofs.VersionBack.{undo_versions, pass_versions, begun_v
 pub sound_less : (old new : Store) → AreSound old → ((n : ℕ) → times n (owned new) ≤ times n (owned old)) → AreSound new
 sound_less old new sound less = once_different (owned new) (λ n. let a = less n in let b = different_once n (owned old) sound in omega (arith, a, b))
 
-none_unowned : (page : ℕ) (store : Store) → IsNotAmong page (owned store) → IsNotAmong page (owned_lobs store)
+pub none_unowned : (page : ℕ) (store : Store) → IsNotAmong page (owned store) → IsNotAmong page (owned_lobs store)
 none_unowned page store not_there =
     let r = not_parts page (0 ∷ store.row_pages) (log_pages store.active ++ (log_pages store.committed ++ lob_pages store.lobs (owned_lobs store))) not_there in
     let s = not_parts page (log_pages store.active) (log_pages store.committed ++ lob_pages store.lobs (owned_lobs store)) r.1 in
