@@ -2,6 +2,7 @@
 //! the head before it.
 use crate::report::Report;
 use crate::request::{Kernel, Request};
+use crate::store::{COUNT, reserved};
 use anyhow::{Result, bail, ensure};
 use engine_base::{Addr, PageNo, Pages};
 use lob_bytes::{add_piece, begin_lob, read_piece};
@@ -13,9 +14,6 @@ use page_space::{Space, make_system};
 use std::alloc::Global;
 use std::time::Instant;
 
-// 128 MiB of pages.
-const COUNT: u32 = 8_192;
-
 const TRX: TrxId = TrxId(7);
 
 const PIECE: [u8; 16_327] = [7; 16_327];
@@ -23,20 +21,9 @@ const PIECE: [u8; 16_327] = [7; 16_327];
 // The first piece is as long as the first page has room for.
 const FIRST: [u8; 15_680] = [7; 15_680];
 
-// Reserves so many pages in all.
+/// A LOB of so many pieces.
 #[tactic(auto, using(crate::proofs::Ample::ample))]
-fn reserved(p: &mut MemPages, space: &mut Space, pages: u32) -> Result<()> {
-    if space.reserved() < pages {
-        let more = pages - space.reserved();
-        ensure!(p.count() == COUNT, "the pages are gone");
-        ensure!(space.reserve(p, more).is_ok(), "no page is free");
-    }
-    Ok(())
-}
-
-// A LOB of so many pieces.
-#[tactic(auto, using(crate::proofs::Ample::ample))]
-fn built(p: &mut MemPages, space: &mut Space, pieces: u16) -> Result<PageNo> {
+pub fn built(p: &mut MemPages, space: &mut Space, pieces: u16) -> Result<PageNo> {
     ensure!(p.count() == COUNT, "the pages are gone");
     reserved(p, space, 2)?;
     ensure!(
@@ -152,7 +139,7 @@ fn timed(
     request: Request,
     version: u32,
 ) -> Result<u64> {
-    let pieces = request.size;
+    let pieces = u16::try_from(request.size)?;
     match request.kernel {
         Kernel::LobRead => read_all(p, first, pieces),
         Kernel::LobPush => {
@@ -174,7 +161,7 @@ pub fn lob_rounds(rt: &HostRuntime, request: Request) -> Result<Report> {
     let mut space = Space::new();
     ensure!(p.count() == COUNT, "the pages are gone");
     ensure!(make_system(&mut p).is_ok(), "no system page");
-    let first = built(&mut p, &mut space, request.size)?;
+    let first = built(&mut p, &mut space, u16::try_from(request.size)?)?;
     let mut count = 0u64;
     let start = Instant::now(rt)?;
     for round in 0..u32::try_from(request.rounds)? {

@@ -4,8 +4,12 @@
 
 mod flush;
 mod lob;
+mod reads;
 mod report;
 mod request;
+mod rows;
+mod store;
+mod undo;
 
 use anyhow::{Result, bail};
 use report::Report;
@@ -24,7 +28,10 @@ fn words<R: Env + AllocGlobal>(rt: &R) -> Result<Vec<String>> {
 
 fn requested(words: &[String]) -> Result<Request> {
     let [name, rounds, size] = words else {
-        bail!("usage: page_bench flush|raw|lob-build|lob-read|lob-push ROUNDS SIZE");
+        bail!(
+            "usage: page_bench flush|raw|lob-build|lob-read|lob-push|copy|read-pieces|\
+             read-records|row-put|row-read|row-remove|undo-append|undo-pop ROUNDS SIZE"
+        );
     };
     let Some(kernel) = Kernel::named(name.as_str()) else {
         bail!("no kernel has that name");
@@ -32,15 +39,19 @@ fn requested(words: &[String]) -> Result<Request> {
     Ok(Request {
         kernel,
         rounds: rounds.as_str().parse::<u64>()?,
-        size: size.as_str().parse::<u16>()?,
+        size: size.as_str().parse::<u32>()?,
     })
 }
 
 fn measured(rt: &HostRuntime, request: Request) -> Result<Report> {
     match request.kernel {
-        Kernel::Flush => flush::flush_rounds(rt, request.rounds, request.size),
-        Kernel::Raw => flush::raw_rounds(rt, request.rounds, request.size),
+        Kernel::Flush => flush::flush_rounds(rt, request.rounds, u16::try_from(request.size)?),
+        Kernel::Raw => flush::raw_rounds(rt, request.rounds, u16::try_from(request.size)?),
         Kernel::LobBuild | Kernel::LobRead | Kernel::LobPush => lob::lob_rounds(rt, request),
+        Kernel::Copy => reads::copy_rounds(rt, request),
+        Kernel::ReadPieces | Kernel::ReadRecords => reads::read_rounds(rt, request),
+        Kernel::RowPut | Kernel::RowRead | Kernel::RowRemove => rows::row_rounds(rt, request),
+        Kernel::UndoAppend | Kernel::UndoPop => undo::undo_rounds(rt, request),
     }
 }
 
