@@ -35,7 +35,7 @@ begins : (p : Plan) (new : Row → Row) (body : Body) (f : List Lob → List Lob
 begins p new body f store may made back rest = record {
   own = history-on after.lobs (row_before after p.doc) (changes after p.doc)
       ∙ ap (history_on after.lobs (row_before after p.doc)) (changes-own p (new before) before body f store may)
-      ∙ ap₂ (λ (t : ℕ) (hs : List Past). let h : Past = record { trx = t; bytes = content after.lobs (row_before after p.doc) } in h ∷ hs)
+      ∙ ap₂ (λ (t : ℕ) (hs : List Past). let h : Past = record { trx = t; length = (row_before after p.doc).lob.length; bytes = content after.lobs (row_before after p.doc) } in h ∷ hs)
       (ap (λ (r : Row). r.trx) (row-with_this p.doc (new before) store) ∙ made before)
       (back ∙ sym (history-on store.lobs before (changes store p.doc)));
   others = λ d other. history-on after.lobs (row_before after d) (changes after d)

@@ -170,20 +170,20 @@ module _ (trx : ℕ) (place : Address) (u : Record) (store : Store) (well : IsWe
       chain : IsChain (row_before store u.doc) (change trx place u ∷ changes (without_newest trx u store) u.doc)
       chain = subst (IsChain (row_before store u.doc)) (changes-popped trx place u store new) (well.chains u.doc)
 
-      shape : history store u.doc ≡ record { trx = (row_before store u.doc).trx; bytes = content store.lobs (row_before store u.doc) }
+      shape : history store u.doc ≡ record { trx = (row_before store u.doc).trx; length = (row_before store u.doc).lob.length; bytes = content store.lobs (row_before store u.doc) }
           ∷ history_on (lobs_laid (old_runs u.body) store.lobs) u.before (changes (without_newest trx u store) u.doc)
       shape = history-on store.lobs (row_before store u.doc) (changes store u.doc) ∙ ap (history_on store.lobs (row_before store u.doc)) (changes-popped trx place u store new)
 
       older : under store u.doc k ≡ seen (is_among store k) (all_but_first (history store u.doc))
       older = seen_older (is_among store k) (history store u.doc) _ _ shape (ap (is_among store k) chain.0.trx ∙ open_unseen store k trx (newest_stands trx (place, u) store.active new.newest))
 
-      nothing : (x : ℕ) → seen (is_among store k) (record { trx = x; bytes = None } ∷ []) ≡ None
-      nothing x = either (is_among store k x) None
+      nothing : (x n : ℕ) → seen (is_among store k) (record { trx = x; length = n; bytes = None } ∷ []) ≡ None
+      nothing x n = either (is_among store k x) None
 
       own : seen (is_among store k) (history (undo_ended trx u store) u.doc) ≡ under store u.doc k
       own = elim (undo_history trx place u store well new) [
         | inl back ↦ ap (seen (is_among store k)) back ∙ sym older
-        | inr gone ↦ ap (seen (is_among store k)) gone.0 ∙ nothing 0 ∙ sym (nothing u.before.trx) ∙ ap (seen (is_among store k)) (sym gone.1) ∙ sym older
+        | inr gone ↦ ap (seen (is_among store k)) gone.0 ∙ nothing 0 0 ∙ sym (nothing u.before.trx u.before.lob.length) ∙ ap (seen (is_among store k)) (sym gone.1) ∙ sym older
       ]
 
 -- ---- purge

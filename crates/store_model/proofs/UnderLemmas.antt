@@ -6,7 +6,7 @@ use Rattle.store_data.specs.Logs.{with_record, passed}
 use Rattle.store_data.specs.Pieces.{piece_at, dropped}
 use Rattle.store_data.specs.Store.{Row, Body, Lob, Record, Log, Store}
 use Rattle.store_model.specs.Lobs.{lob_of}
-use Rattle.store_model.specs.History.{Past, history, row_before, seen, stands, stands_above, is_among, under}
+use Rattle.store_model.specs.History.{Past, history, row_before, seen, stands, stands_above, is_among, under, content}
 use Rattle.store_model.specs.Steps.{on_lobs, on_log, log_of, all_but_first, last_in}
 use Rattle.store_model.specs.Events.{Plan, record_of, planned}
 use Rattle.store_model.specs.Undo.{on_first, on_oldest, cleared, record_passed, purge_begun, log_pages_left, log_purged, piece_freed, index_freed, version_dropped}
@@ -122,7 +122,7 @@ log_stands trx (l ∷ ls) there = by_test (l.trx == trx) (log_stands trx ls) the
 pub begins_under : (p : Plan) (old new : Store) → MayChange p old → Begins p old new → ((k x : ℕ) → is_among new k x ≡ is_among old k x) → KeepsUnder 0 old new
 begins_under p old new may begins among d k below = elim (cases_eq d p.doc) [
   | inl same ↦ subst (λ q. under new q k ≡ under old q k) (sym same)
-      (ap (seen (is_among new k)) begins.own ∙ seen_behind (is_among new k) _ (history old p.doc) (among k p.trx ∙ open_unseen old k p.trx (log_stands p.trx old.active may.log))
+      (ap (seen (is_among new k)) begins.own ∙ seen_behind (is_among new k) (record { trx = p.trx; length = (row_before new p.doc).lob.length; bytes = content new.lobs (row_before new p.doc) }) (history old p.doc) (among k p.trx ∙ open_unseen old k p.trx (log_stands p.trx old.active may.log))
       ∙ seen-same (is_among new k) (is_among old k) (history old p.doc) (among k))
   | inr other ↦ ap (seen (is_among new k)) (begins.others d other) ∙ seen-same (is_among new k) (is_among old k) (history old d) (among k)
 ]

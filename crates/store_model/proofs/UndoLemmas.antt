@@ -68,14 +68,14 @@ undo_own trx place u store new elsewhere stays =
 -- an insert that found no row, or a deleted one whose deletion is purged: the row goes
 pub undo_gone : (trx : ℕ) (place : Address) (u : Record) (store : Store) → IsNewest trx place u store
     → is_gone (without_newest trx u store) u.before.state u.before ≡ true → changes (without_newest trx u store) u.doc ≡ []
-    → (history (undo_ended trx u store) u.doc ≡ record { trx = 0; bytes = None } ∷ []) × (all_but_first (history store u.doc) ≡ record { trx = u.before.trx; bytes = None } ∷ [])
+    → (history (undo_ended trx u store) u.doc ≡ record { trx = 0; length = 0; bytes = None } ∷ []) × (all_but_first (history store u.doc) ≡ record { trx = u.before.trx; length = u.before.lob.length; bytes = None } ∷ [])
 undo_gone trx place u store new goes last = (
   ap (λ (b : Bool). history (if b then without_row u.doc mid else with_row u.doc u.before mid) u.doc) goes
       ∙ history-on mid.lobs (row_before (without_row u.doc mid) u.doc) (changes mid u.doc)
       ∙ ap₂ (history_on mid.lobs) (row-without_this u.doc mid) last,
   older-of trx place u store new
       ∙ ap (history_on (lobs_laid (old_runs u.body) store.lobs) u.before) last
-      ∙ ap (λ o. let h : Past = record { trx = u.before.trx; bytes = o } in h ∷ []) (by_state u.before.state goes),
+      ∙ ap (λ o. let h : Past = record { trx = u.before.trx; length = u.before.lob.length; bytes = o } in h ∷ []) (by_state u.before.state goes),
 )
   where
     mid : Store

@@ -74,18 +74,19 @@ content_behind later lobs row = shown row.state (map (put_back later) (parts lob
 
 -- ---- histories
 
--- a row as it was: who made it, and the bytes that it shows
+-- a row as it was: who made it, the length that its reference has, and the bytes that it shows
 pub record Past : Type 0 where
   pub trx : ℕ
+  pub length : ℕ
   pub bytes : Option (List ℕ)
 
 -- of a row and the changes that led to it; `later` are the records between it and the document's
 -- newest row
 abbrev pub history_behind : List Record → List Lob → Row → List Change → List Past
 history_behind later lobs row [] =
-    record { trx = row.trx; bytes = content_behind later lobs row } ∷ []
+    record { trx = row.trx; length = row.lob.length; bytes = content_behind later lobs row } ∷ []
 history_behind later lobs row (c ∷ cs) =
-    record { trx = row.trx; bytes = content_behind later lobs row } ∷ history_behind
+    record { trx = row.trx; length = row.lob.length; bytes = content_behind later lobs row } ∷ history_behind
     (later ++ c.undo ∷ []) lobs c.undo.before cs
 
 abbrev pub history : Store → ℕ → List Past
@@ -93,9 +94,9 @@ history store d = history_behind [] store.lobs (row_before store d) (changes sto
 
 -- the same by LOBs in which each change in place is taken back on the way
 abbrev pub history_on : List Lob → Row → List Change → List Past
-history_on lobs row [] = record { trx = row.trx; bytes = content lobs row } ∷ []
+history_on lobs row [] = record { trx = row.trx; length = row.lob.length; bytes = content lobs row } ∷ []
 history_on lobs row (c ∷ cs) =
-    record { trx = row.trx; bytes = content lobs row } ∷ history_on
+    record { trx = row.trx; length = row.lob.length; bytes = content lobs row } ∷ history_on
     (lobs_laid (old_runs c.undo.body) lobs) c.undo.before cs
 
 -- the first that is seen

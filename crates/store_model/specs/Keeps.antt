@@ -12,8 +12,8 @@ use Rattle.store_model.specs.Steps.{all_but_first}
 abbrev pub Restores : Record → Store → Store → Type 0
 Restores u old new =
     (history new u.doc ≡ all_but_first (history old u.doc))
-    ⊎ ((history new u.doc ≡ record { trx = 0; bytes = None } ∷ [])
-    × (all_but_first (history old u.doc) ≡ record { trx = u.before.trx; bytes = None } ∷ []))
+    ⊎ ((history new u.doc ≡ record { trx = 0; length = 0; bytes = None } ∷ [])
+    × (all_but_first (history old u.doc) ≡ record { trx = u.before.trx; length = u.before.lob.length; bytes = None } ∷ []))
 
 abbrev pub IsVersioned : Body → Type 0
 IsVersioned (inserted page) = ⊥

@@ -25,7 +25,7 @@ pub record MayChange (p : Plan) (store : Store) : Type 0 where
 
 pub record Begins (p : Plan) (old new : Store) : Type 0 where
   pub own : history new p.doc
-      ≡ record { trx = p.trx; bytes = content new.lobs (row_before new p.doc) } ∷ history old p.doc
+      ≡ record { trx = p.trx; length = (row_before new p.doc).lob.length; bytes = content new.lobs (row_before new p.doc) } ∷ history old p.doc
   pub others : (d : ℕ) → d ≢ p.doc → history new d ≡ history old d
 
 abbrev pub KeepsOlder : ℕ → Store → Store → Type 0

@@ -4,6 +4,7 @@
 mod changes;
 mod commit;
 mod consistent;
+mod heads;
 mod held;
 mod ids;
 mod owned;
@@ -21,6 +22,7 @@ pub use consistent::{
     changes_stay_consistent, lob_events_stay_consistent, pages_stay_consistent,
     records_stay_consistent,
 };
+pub use heads::heads_keep_their_places;
 pub use held::{lobs_are_owned_ones, lobs_stay_owned, rows_stay_rising};
 pub use ids::{ids_stay, log_begins, runs_stay_inside, undo_keeps_under};
 pub use owned::{changes_take, counts_keep_sound, lob_events_move, records_give};

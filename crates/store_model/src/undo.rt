@@ -48,9 +48,9 @@ pub fn undo_removes_row()
     ensures { (trx : ℕ) (place : Address) (u : Record) (store : Store) → IsNewest trx place u store
         → is_gone (without_newest trx u store) u.before.state u.before ≡ true
         → changes (without_newest trx u store) u.doc ≡ []
-        → (history (undo_ended trx u store) u.doc ≡ record { trx = 0; bytes = None } ∷ [])
+        → (history (undo_ended trx u store) u.doc ≡ record { trx = 0; length = 0; bytes = None } ∷ [])
         × (all_but_first (history store u.doc)
-        ≡ record { trx = u.before.trx; bytes = None } ∷ []) }
+        ≡ record { trx = u.before.trx; length = u.before.lob.length; bytes = None } ∷ []) }
 {}
 
 /// Other documents stay.
