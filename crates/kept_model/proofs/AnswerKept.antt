@@ -20,6 +20,7 @@ use Rattle.kept_model.proofs.FrameLemmas.{under_way_same, own_same}
 use Rattle.kept_model.proofs.SessionLemmas.{self_eq, is_eq, apart_of, not_eq, by_session, session_same, logged_same, holds_same, may_hold_same, view_same}
 use Rattle.kept_model.proofs.AnswerRows as part
 use Rattle.kept_model.proofs.AnswerRows.{gets_lock, map_append, no_deadlock}
+use Rattle.kept_model.specs.Fetches.{IsFetched}
 
 module _ (o : Opening) (script : Script) (e : Engine) (kept : Kept o script e) (s i d : ℕ) (r : Reply) (lv : Option Level)
     (task_is : (e.sessions s).task ≡ making d nothing r) (inside_is : (e.sessions s).level ≡ lv) (under : unanswered s e.journal ≡ Some i) where
@@ -244,7 +245,9 @@ module _ (o : Opening) (script : Script) (e : Engine) (kept : Kept o script e) (
           doc = mk.doc;
           reply = mk.reply ∙ ap (reply_to mk.change) (sym (newest_same t apart));
           ok = mk.ok;
+          measured = mk.measured;
           ends = mk.ends ∙ ap (λ (hh : History). bytes_of (one_made t mk.change (newest_in t hh)).left)
               (sym (history_is q ∙ ap (λ (b : Bool). if b then pushed s c (history o script e.journal q) else history o script e.journal q) (not_eq (call_doc c) q other)));
         });
+    fetched = by_session (λ t y. IsFetched e.store y) s x' e.sessions (λ q ps h. absurd (cc h)) (λ t apart. kept.fetched t);
   }

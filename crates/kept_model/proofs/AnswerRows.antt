@@ -1,5 +1,5 @@
 -- The answer to a change: its entry may follow, and the documents' rows stay told.
-use Rattle.std.proofs.Common.{◌≡◌, ◌≢◌, ◌⊎◌, inl, inr, ℕ, suc, ◌+◌, ◌≤◌, ◌<◌, Bool, true, false, true≢false, not, ◌&&◌, ◌||◌, nat_eq, nat_lt, nat_le, List, [], ◌∷◌, ◌++◌, map, reverse, length, Option, Some, None, is_some, IfSome, option_and_then, option_to_list, refl, sym, ap, ap₂, subst, ◌∙◌, arith, if◌then◌else◌}
+use Rattle.std.proofs.Common.{◌≡◌, ◌≢◌, ◌⊎◌, inl, inr, ℕ, suc, ◌+◌, ◌≤◌, ◌<◌, Bool, true, false, true≢false, not, ◌&&◌, ◌||◌, nat_eq, nat_lt, nat_le, List, [], ◌∷◌, ◌++◌, map, reverse, length, Option, Some, None, is_some, IfSome, option_and_then, option_to_list, refl, sym, ap, ap₂, subst, ◌∙◌, arith, if◌then◌else◌, option_map}
 use Rattle.std.proofs.lemmas.Bool.{cases_eq}
 use Rattle.std.proofs.lemmas.List.{map-id}
 use Rattle.journal_model.specs.Documents.{Call, call_doc}
@@ -121,14 +121,14 @@ alone_holds script s d past alone (h ∷ hs) = by_test (holds script h d past) r
 
 -- the newest row of a history is the row itself, with the bytes that it shows
 pub rows_front : (later : List Record) (lobs : List Lob) (row : Row) (cs : List Change)
-    → (ps : List Past) × (history_behind later lobs row cs ≡ record { trx = row.trx; bytes = content_behind later lobs row } ∷ ps)
+    → (ps : List Past) × (history_behind later lobs row cs ≡ record { trx = row.trx; length = row.lob.length; bytes = content_behind later lobs row } ∷ ps)
 rows_front later lobs row [] = ([], refl)
 rows_front later lobs row (c ∷ cs) = (history_behind (later ++ c.undo ∷ []) lobs c.undo.before cs, refl)
 
 pub shows_now : (lobs : List Lob) (row : Row) → content_behind [] lobs row ≡ will_show nothing lobs row
 shows_now lobs row = by_state row.state
   where
-    by_state : (st : RowState) → store.shown st (map (put_back []) (parts lobs row.lob)) ≡ shown_by (completed nothing) st (parts lobs row.lob)
+    by_state : (st : RowState) → store.shown st (map (put_back []) (parts lobs row.lob)) ≡ option_map (completed nothing) (shown_by st (parts lobs row.lob))
     by_state store_of.absent = refl
     by_state store_of.live = ap (λ (ps : List Part). Some (joined ps)) (map-id (parts lobs row.lob))
     by_state store_of.deleted = refl
@@ -251,8 +251,8 @@ module _ (o : Opening) (script : Script) (e : Engine) (kept : Kept o script e) (
   own_stored =
       let rows = rows_front [] e.store.lobs (row_before e.store d) (row_changes e.store d) in
       answer_stored (known_from o e.store) script e.journal new.journal (is_purging e.store.committed) (suc e.store.purged) (is_old e.store) (names_of e) (store.history e.store d) s
-      (history o script e.journal d) (record { trx = (row_before e.store d).trx; bytes = content_behind [] e.store.lobs (row_before e.store d) }) rows.0 c rows.1 m.is
-      (shows_now e.store.lobs (row_before e.store d) ∙ m.ends)
+      (history o script e.journal d) (record { trx = (row_before e.store d).trx; length = (row_before e.store d).lob.length; bytes = content_behind [] e.store.lobs (row_before e.store d) }) rows.0 c rows.1 m.is
+      (shows_now e.store.lobs (row_before e.store d) ∙ m.ends, λ bs is. m.measured bs (sym (shows_now e.store.lobs (row_before e.store d)) ∙ is))
       (subst (λ (f : Front). By (history o script e.journal d) f e.journal d) front_was (kept.stored d))
 
   pub stored_kept : (q : ℕ) → IsStored o script new q

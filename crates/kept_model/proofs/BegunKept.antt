@@ -21,6 +21,7 @@ use Rattle.kept_model.proofs.PassedLemmas.{purge_begins}
 use Rattle.kept_model.proofs.PlanKept.{stored_over}
 use Rattle.kept_model.proofs.CommitRows.{all_past}
 use Rattle.kept_model.proofs.UndoRows.{among_more}
+use Rattle.kept_model.proofs.FetchRows.{fetch_kept}
 
 greater_up : (a b c : ℕ) → b ≤ c → greater a b ≤ greater a c
 greater_up a b c le = by_tests (nat_lt a b) refl (nat_lt a c) refl
@@ -131,7 +132,8 @@ module _ (o : Opening) (script : Script) (e : Engine) (kept : Kept o script e) (
       shows = rd.shows;
       flight = subst (λ doc. IsFlight (sees_by (e.sessions t).trx rd.view) doc rd.parts f) (sym (begun_purge_same e.store d)) rd.flight;
     };
-    making = λ t d left r h. let m = kept.making t d left r h in record { change = m.change; is = m.is; doc = m.doc; reply = m.reply; ok = m.ok; ends = m.ends };
+    making = λ t d left r h. let m = kept.making t d left r h in record { change = m.change; is = m.is; doc = m.doc; reply = m.reply; ok = m.ok; measured = m.measured; ends = m.ends };
+    fetched = λ t d f h. fetch_kept d e.store new.store (record { parts = refl; row = λ is_live. refl }) f (kept.fetched t d f h);
   }
     where
       by_trx : (m : Option ℕ) → Rattle.kept_model.specs.Sessions.session_records new.store m ≡ Rattle.kept_model.specs.Sessions.session_records e.store m

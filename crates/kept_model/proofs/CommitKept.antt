@@ -17,12 +17,12 @@ use Rattle.store_model.proofs.CommitLemmas.{commit_among_old}
 use Rattle.store_model.proofs.ConsistentLemmas.{commit_consistent}
 use Rattle.read_model.specs.Flight.{IsFlight}
 use Rattle.read_model.proofs.StoreLemmas.{commit_same}
-use Rattle.kept_model.specs.Engine.{ReadView, sees_by, Left, idle, Engine, resting, unless}
+use Rattle.kept_model.specs.Engine.{ReadView, sees_by, idle, Engine, resting, unless}
 use Rattle.kept_model.specs.Names.{AreLogs}
 use Rattle.kept_model.specs.Rows.{bytes_of}
 use Rattle.kept_model.specs.Stored.{IsStored}
 use Rattle.kept_model.specs.Sessions.{IsSession, records_of, session_records, IsLogged, has_lock, AreLocks}
-use Rattle.kept_model.specs.Views.{AllPast, IsViewIn, IsViewed, IsRead, will_show, IsMaking}
+use Rattle.kept_model.specs.Views.{AllPast, IsViewIn, IsViewed, IsRead, IsMaking, newest_parts, completed}
 use Rattle.kept_model.specs.Kept.{IsCalm, AreCounts, AreGiven, Kept}
 use Rattle.kept_model.specs.Commits.{commit_event}
 use Rattle.kept_model.proofs.NameLemmas.{commit_old}
@@ -36,6 +36,8 @@ use Rattle.kept_model.proofs.SeenLemmas.{reply_same, history_committed, none_own
 use Rattle.kept_model.proofs.CommitLegal.{part_committed, count_committed}
 use Rattle.kept_model.proofs.CommitRows as part
 use Rattle.kept_model.proofs.CommitRows.{all_past}
+use Rattle.kept_model.specs.Fetches.{IsFetched}
+use Rattle.kept_model.proofs.FetchRows.{fetch_kept, will_measured}
 
 module _ (o : Opening) (script : Script) (run : IsRun o script) (e : Engine) (kept : Kept o script e) (s i trx : ℕ)
     (is : (e.sessions s).trx ≡ Some trx) (free : (e.sessions s).task ≡ idle)
@@ -200,8 +202,8 @@ module _ (o : Opening) (script : Script) (run : IsRun o script) (e : Engine) (ke
 
   -- ---- changes under way
 
-  content_same : (d : ℕ) (left : Left) → will_show left new.store.lobs (row_before new.store d) ≡ will_show left e.store.lobs (row_before e.store d)
-  content_same d left = ap (λ (st : Store). will_show left st.lobs (row_before st d)) store_is
+  content_same : (d : ℕ) → newest_parts new.store d ≡ newest_parts e.store d
+  content_same d = ap (λ (st : Store). newest_parts st d) store_is
 
   pub making_kept : (t : ℕ) → IsMaking o script new.journal new.store t (new.sessions t)
   making_kept = by_session (IsMaking o script new.journal new.store) s resting e.sessions (λ d left r h. absurd (cc h))
@@ -216,7 +218,8 @@ module _ (o : Opening) (script : Script) (run : IsRun o script) (e : Engine) (ke
         reply = m.reply ∙ sym (reply_same m.change (newest o script t past) (newest o script t new.journal)
             (subst (λ (q : ℕ). look (newest o script t new.journal) q ≡ look (newest o script t past) q) (sym m.doc) (newest_same o script run past s i n statement_is t d kept.calm.legal calm_kept.legal none)));
         ok = m.ok;
-        ends = content_same d left ∙ m.ends ∙ ap (λ (hh : History). bytes_of (one_made t m.change (newest_in t hh)).left)
+        measured = will_measured d e.store new.store (record { parts = content_same d; row = λ is_live. ap (λ (st : Store). row_before st d) store_is }) left m.measured;
+        ends = ap (option_map (completed left)) (content_same d) ∙ m.ends ∙ ap (λ (hh : History). bytes_of (one_made t m.change (newest_in t hh)).left)
             (sym (history_committed o script run past s i n statement_is d ∙ history_same o script run past s i n statement_is d (none_own o script run past s i n statement_is d kept.calm.legal none)));
       })
 
@@ -237,4 +240,5 @@ module _ (o : Opening) (script : Script) (run : IsRun o script) (e : Engine) (ke
     views = views_kept;
     reads = reads_kept;
     making = making_kept;
+    fetched = by_session (λ t y. IsFetched new.store y) s resting e.sessions (λ d g h. absurd (cc h)) (λ t apart d ps h. fetch_kept d e.store new.store (record { parts = content_same d; row = λ is_live. ap (λ (st : Store). row_before st d) store_is }) ps (kept.fetched t d ps h));
   }

@@ -1,16 +1,15 @@
 -- The events that purge a record, but its last, keep all parts.
-use Rattle.std.proofs.Common.{◌≡◌, ◌≢◌, ℕ, suc, ◌≤◌, ◌<◌, Bool, true, false, true≢false, not, ◌&&◌, ◌||◌, nat_eq, nat_lt, nat_le, List, [], ◌∷◌, ◌++◌, Option, Some, None, refl, sym, ap, ap₂, subst, ◌∙◌, arith, if◌then◌else◌}
-use Rattle.journal_model.specs.Journal.{Script, Entry, Opening}
-use Rattle.journal_model.specs.History.{Owner, session, commit, Made, is_among, history}
+use Rattle.std.proofs.Common.{◌≡◌, ℕ, suc, ◌≤◌, ◌<◌, Bool, true, false, true≢false, not, ◌&&◌, ◌||◌, nat_eq, nat_lt, nat_le, List, [], ◌∷◌, Option, Some, None, refl, sym, ap, ap₂, subst, ◌∙◌, arith, if◌then◌else◌, option_map}
+use Rattle.journal_model.specs.Journal.{Script, Opening}
+use Rattle.journal_model.specs.History.{Owner, session, commit, is_among, history}
 use Rattle.store_data.specs.Store.{Log, Lob}
 use Rattle.store_model.specs.History.{Past, stands, stands_above}
 use Rattle.store_model.specs.History as store
-use Rattle.kept_model.specs.Engine.{ReadView, is_own, sees_by, Left, making, Engine}
+use Rattle.kept_model.specs.Engine.{ReadView, is_own, sees_by, Engine}
 use Rattle.kept_model.specs.Names.{trx_numbered, names_of, is_begun, is_purging, floor, is_old, AreNumbered}
-use Rattle.kept_model.specs.Rows.{AreNamed}
-use Rattle.kept_model.specs.Stored.{Front, whole, begun, front_of, front_by, front, IsAhead, IsStoredBy, known_from, IsStored}
+use Rattle.kept_model.specs.Stored.{front, IsStoredBy, known_from, IsStored}
 use Rattle.kept_model.specs.Sessions.{session_records, records_of, has_lock, IsLogged}
-use Rattle.kept_model.specs.Views.{AllPast, IsViewIn}
+use Rattle.kept_model.specs.Views.{AllPast, IsViewIn, completed}
 use Rattle.kept_model.specs.Kept.{Kept}
 use Rattle.kept_model.specs.Drops.{Drops, drop_event}
 use Rattle.kept_model.proofs.PassedLemmas.{purge_works}
@@ -18,6 +17,7 @@ use Rattle.kept_model.proofs.PassKept.{greater_second, past_parts, past_same}
 use Rattle.kept_model.proofs.PlanKept.{stored_over}
 use Rattle.kept_model.proofs.SessionLemmas.{self_eq}
 use Rattle.kept_model.proofs.UndoRows.{among_more}
+use Rattle.kept_model.proofs.FetchRows.{fetch_kept, will_measured}
 
 equal : (a b : ℕ) → nat_lt a b ≡ false → nat_lt b a ≡ false → a ≡ b
 equal a b up down = grind (arith, up, down)
@@ -89,19 +89,6 @@ module _ (o : Opening) (script : Script) (e : Engine) (kept : Kept o script e) (
       or_true true = refl
       or_true false = refl
 
-  -- the newest row of a change that is made isn't the purged transaction's
-  not_own : (t d : ℕ) (left : Left) (r : Rattle.journal_model.specs.Journal.Reply) → (e.sessions t).task ≡ making d left r → d ≡ d₀ → drops.newer ≢ []
-  not_own t d left r h here none =
-      let mine : e.locks d ≡ Some t = (kept.locks d).taken t (ap (has_lock d) h ∙ self_eq d) in
-      let f_is : front e d ≡ begun t = ap (λ (m : Option ℕ). front_by d m e.sessions) mine ∙ ap (front_of d t) h ∙ ap (λ (b : Bool). if b then begun t else whole) (self_eq d) in
-      let f_own : front e d₀ ≡ begun t = ap (front e) (sym here) ∙ f_is in
-      let k = was d₀ in
-      let ahead = subst (λ (f : Front). IsAhead script e.journal (history o script e.journal d₀) f k.ahead) f_own k.is_ahead in
-      let rows : store.history e.store d₀ ≡ drops.own ∷ drops.before ∷ [] = drops.was ∙ ap (λ (ps : List Past). ps ++ (drops.own ∷ drops.before ∷ [])) none in
-      let named = subst (λ (a : List Made). AreNamed (names_of e) (is_old e.store) (a ++ k.left) (drops.own ∷ drops.before ∷ [])) ahead.2
-      (subst (AreNamed (names_of e) (is_old e.store) (k.ahead ++ k.left)) rows k.named) in
-      absurd (true≢false (sym (kept.logs.own t l.trx (named.0 ∙ ap (λ (m : ℕ). Some m) drops.mine)).0 ∙ its.0))
-
   names_same : (w : Owner) (x : ℕ) → names_of e w ≡ Some x → names_of new w ≡ Some x
   names_same (session t) x h = h
   names_same (commit c) x h = h
@@ -164,5 +151,6 @@ module _ (o : Opening) (script : Script) (e : Engine) (kept : Kept o script e) (
           flight = drops.reads (sees_by (e.sessions t).trx rd.view) q rd.parts fl (seen_so t rd.view l.trx (seen_own rd.view ((kept.views t).sees rd.view rd.is))) rd.flight;
         };
     making = λ t q left r h. let m = kept.making t q left r h in
-        record { change = m.change; is = m.is; doc = m.doc; reply = m.reply; ok = m.ok; ends = drops.shows q (not_own t q left r h) left ∙ m.ends };
+        record { change = m.change; is = m.is; doc = m.doc; reply = m.reply; ok = m.ok; measured = will_measured q e.store new.store (drops.shows q) left m.measured; ends = ap (option_map (completed left)) (drops.shows q).parts ∙ m.ends };
+    fetched = λ t q ps h. fetch_kept q e.store new.store (drops.shows q) ps (kept.fetched t q ps h);
   }

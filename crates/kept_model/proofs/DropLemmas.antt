@@ -37,8 +37,8 @@ use Rattle.read_model.proofs.StoreLobLemmas.{drop_touches, free_touches, index_t
 use Rattle.read_model.proofs.StorePurgeLemmas.{to_so}
 use Rattle.kept_model.specs.Rows.{SameTrx, SameTo}
 use Rattle.kept_model.specs.Drops.{Drops}
-use Rattle.kept_model.proofs.OwnLemmas.{owned_there}
-use Rattle.kept_model.proofs.KindLemmas.{will_same}
+use Rattle.store_model.proofs.ThereLemmas.{lob_is_owned}
+use Rattle.kept_model.proofs.KindLemmas.{shown_same}
 use Rattle.kept_model.proofs.PassLemmas.{IsSplit, split, same_trx, same_to, first_of, last_kind}
 
 -- ---- a version that is found without the oldest
@@ -124,8 +124,11 @@ module _ (a : Address) (u : Record) (store : Store) (l : Log) (ls : List Log) (a
             (kept_where_touched sees (document store u.doc) (document (on_lobs f store) u.doc) parts fl (touch_own sees known) (subst (λ (n : ℕ). IsFlight sees (document store n) parts fl) here h))
         | inr other ↦ kept_where_touched sees (document store q) (document (on_lobs f store) q) parts fl (touch_others sees q other) h
       ];
-      shows = λ q some left. will_same left store.lobs (f store.lobs) (row_before store q)
-          (first_of l.trx (SameParts store.lobs (f store.lobs)) (row_before store q) (changes store q) (parts_to q));
+      shows = λ q. record {
+        row = λ is_live. refl;
+        parts = shown_same store.lobs (f store.lobs) (row_before store q)
+            (first_of l.trx (SameParts store.lobs (f store.lobs)) (row_before store q) (changes store q) (parts_to q));
+      };
     }
 
   -- ---- the LOB before is freed, piece by piece
@@ -154,11 +157,11 @@ module _ (a : Address) (u : Record) (store : Store) (l : Log) (ls : List Log) (a
 
     pub piece_drops : (m : Lob) → lob_of store.lobs u.before.lob.page ≡ Some m → (free : List Address) → Drops l u.doc (on_lob u.before.lob.page (λ m. record (without_piece m) { free = free })) store
     piece_drops m found free = freed_drop (λ m. record (without_piece m) { free = free }) (λ m. refl) (λ sees q elsewhere. free_touches sees store q u.before.lob.page free elsewhere)
-        (free_consistent u.before.lob.page m store all found (owned_there store u.before.lob.page m all found) free)
+        (free_consistent u.before.lob.page m store all found (lob_is_owned store u.before.lob.page m all found) free)
 
     pub index_drops : (m : Lob) → lob_of store.lobs u.before.lob.page ≡ Some m → (i : ℕ) (is : List ℕ) → m.index ≡ i ∷ is → Drops l u.doc (on_lob u.before.lob.page without_index) store
     index_drops m found i is index = freed_drop without_index (λ m. refl) (λ sees q elsewhere. index_touches sees store q u.before.lob.page elsewhere)
-        (index_consistent u.before.lob.page m store all found (owned_there store u.before.lob.page m all found) i is index)
+        (index_consistent u.before.lob.page m store all found (lob_is_owned store u.before.lob.page m all found) i is index)
 
   -- ---- a version of it is dropped
 
@@ -217,4 +220,4 @@ module _ (a : Address) (u : Record) (store : Store) (l : Log) (ls : List Log) (a
         (λ sees known. drop_touches sees store u.doc u.before.lob.page k free (may_drop sees known))
         (λ sees q other. drop_touches sees store q u.before.lob.page k free (λ above older v visible is_live here.
         absurd (seen_elsewhere sees store q u.before.lob.page (drop_others q other) above older v visible is_live here)))
-        (drop_consistent u.before.lob.page m store all found (owned_there store u.before.lob.page m all found) k p free kth)
+        (drop_consistent u.before.lob.page m store all found (lob_is_owned store u.before.lob.page m all found) k p free kth)

@@ -4,7 +4,6 @@ use Rattle.std.specs.List.{list_any}
 use Rattle.journal_model.specs.Journal.{Script, Opening}
 use Rattle.journal_model.specs.History.{Owner, session, commit, history}
 use Rattle.store_data.specs.Store.{Log, Store}
-use Rattle.store_data.specs.Pieces.{Part}
 use Rattle.store_model.specs.History.{Past, stands, stands_above, is_among}
 use Rattle.store_model.specs.History as store
 use Rattle.store_model.specs.Steps.{log_of}
@@ -25,6 +24,9 @@ use Rattle.kept_model.proofs.SessionLemmas.{self_eq, is_eq, apart_of, by_session
 use Rattle.kept_model.proofs.CommitRows.{all_past}
 use Rattle.kept_model.proofs.PlanKept.{stored_over}
 use Rattle.kept_model.proofs.IdleLemmas.{may_begin_over}
+use Rattle.kept_model.specs.Fetches.{IsFetched, IsFetch}
+use Rattle.kept_model.proofs.FetchRows.{fetch_kept}
+use Rattle.read_model.specs.Flight.{Flight}
 
 -- ---- numbers
 
@@ -73,7 +75,7 @@ both_past : (P Q R : ℕ → Type 0) (ps : List Past) → ((x : ℕ) → P x →
 both_past P Q R [] so all more = tt
 both_past P Q R (p ∷ ps) so all more = (so p.trx all.0 more.0, both_past P Q R ps so all.1 more.1)
 
-module _ (o : Opening) (script : Script) (e : Engine) (kept : Kept o script e) (s d page : ℕ) (read : List Part)
+module _ (o : Opening) (script : Script) (e : Engine) (kept : Kept o script e) (s d page : ℕ) (read : Flight)
     (fetched : (e.sessions s).task ≡ fetching d read) (none : (e.sessions s).trx ≡ None) (unowned : IsNotAmong page (owned e.store)) where
   abbrev trx : ℕ
   trx = e.store.next_trx
@@ -234,6 +236,9 @@ module _ (o : Opening) (script : Script) (e : Engine) (kept : Kept o script e) (
       (record { commits = (kept.views s).commits; sees = λ v has. view_in_kept v ((kept.views s).sees v has) })
       (λ t apart. record { commits = (kept.views t).commits; sees = λ v has. view_in_kept v ((kept.views t).sees v has) })
 
+  grown : (q : ℕ) (f : Flight) → IsFetch e.store q f → IsFetch new.store q f
+  grown q f h = fetch_kept q e.store new.store (record { parts = refl; row = λ is_live. refl }) f h
+
   pub log_is_begun : IsBegun s o script new
   log_is_begun = record {
     calm = kept.calm;
@@ -253,7 +258,8 @@ module _ (o : Opening) (script : Script) (e : Engine) (kept : Kept o script e) (
     reads = by_session (IsRead o script e.journal new.store) s x' e.sessions (λ q f h. absurd (cc (sym fetched ∙ h)))
         (λ t apart q f h. let rd = kept.reads t q f h in record { view = rd.view; is = rd.is; parts = rd.parts; shows = rd.shows; flight = rd.flight });
     making = by_session (IsMaking o script e.journal new.store) s x' e.sessions (λ q left r h. absurd (cc (sym fetched ∙ h)))
-        (λ t apart q left r h. let m = kept.making t q left r h in record { change = m.change; is = m.is; doc = m.doc; reply = m.reply; ok = m.ok; ends = m.ends });
+        (λ t apart q left r h. let m = kept.making t q left r h in record { change = m.change; is = m.is; doc = m.doc; reply = m.reply; ok = m.ok; measured = m.measured; ends = m.ends });
+    fetched = by_session (λ t y. IsFetched new.store y) s x' e.sessions (λ q f h. grown q f (kept.fetched s q f h)) (λ t apart q f h. grown q f (kept.fetched t q f h));
   }
 
   pub task_is : (new.sessions s).task ≡ fetching d read

@@ -1,5 +1,5 @@
 -- The events that undo a record, but its last, keep all parts.
-use Rattle.std.proofs.Common.{◌≡◌, ◌≢◌, inl, inr, ℕ, suc, ◌+◌, ◌<◌, Bool, true, false, true≢false, ◌||◌, nat_eq, List, [], ◌∷◌, Option, Some, None, refl, sym, ap, ap₂, subst, ◌∙◌}
+use Rattle.std.proofs.Common.{◌≡◌, ◌≢◌, inl, inr, ℕ, suc, ◌+◌, ◌<◌, Bool, true, false, true≢false, ◌||◌, nat_eq, List, [], ◌∷◌, Option, Some, None, refl, sym, ap, ap₂, subst, ◌∙◌, option_map}
 use Rattle.std.proofs.lemmas.Bool.{cases_eq}
 use Rattle.journal_model.specs.Journal.{Script, Reply, Undoer, Entry, Opening}
 use Rattle.journal_model.specs.Part.{answered}
@@ -14,7 +14,7 @@ use Rattle.kept_model.specs.Engine.{ReadView, is_own, sees_by, Left, Task, idle,
 use Rattle.kept_model.specs.Names.{names_of, is_old, is_purging}
 use Rattle.kept_model.specs.Stored.{Front, undone, front_of, front_by, front, IsStoredBy, known_from, IsStored}
 use Rattle.kept_model.specs.Sessions.{IsAt, under_way_in, is_reading, own_docs, record_docs, session_records, HasRecords, has_lock}
-use Rattle.kept_model.specs.Views.{AllPast, IsViewIn}
+use Rattle.kept_model.specs.Views.{AllPast, IsViewIn, completed}
 use Rattle.kept_model.specs.Kept.{Kept}
 use Rattle.kept_model.specs.Halves.{turned_task, Halves, half_event}
 use Rattle.kept_model.proofs.UndoneLemmas.{half_undone}
@@ -22,6 +22,9 @@ use Rattle.kept_model.proofs.PlanKept.{stored_over}
 use Rattle.kept_model.proofs.AnswerRows.{rows_front}
 use Rattle.kept_model.proofs.WorkKept.{front_past}
 use Rattle.kept_model.proofs.SessionLemmas.{self_eq, is_eq}
+use Rattle.kept_model.specs.Fetches.{IsFetch}
+use Rattle.kept_model.proofs.FetchRows.{fetch_kept, will_measured}
+use Rattle.kept_model.proofs.UndoRows.{WasFetching}
 
 -- ---- tasks
 
@@ -66,7 +69,7 @@ module _ (turn : ℕ → Flight → Flight) where
   turned_lock d (reading e f) = refl
   turned_lock d (undoing v) = refl
 
-  turned_front : (d t : ℕ) (k : Task) → front_of d t (turned_task turn k) ≡ front_of d t k
+  pub turned_front : (d t : ℕ) (k : Task) → front_of d t (turned_task turn k) ≡ front_of d t k
   turned_front d t idle = refl
   turned_front d t (asking e) = refl
   turned_front d t (fetching e ps) = refl
@@ -96,6 +99,18 @@ module _ (turn : ℕ → Flight → Flight) where
   was_making (reading e g) d left r h = absurd (cc h)
   was_making (undoing v) d left r h = absurd (cc h)
 
+  was_fetching : (k : Task) (d : ℕ) (f : Flight) → turned_task turn k ≡ fetching d f → WasFetching turn k d f
+  was_fetching idle d f h = absurd (cc h)
+  was_fetching (asking e) d f h = absurd (cc h)
+  was_fetching (fetching e g) d f h = let same : e ≡ d = cc h in record {
+    before = g;
+    is = ap (λ n. fetching n g) same;
+    now = (let now : turn e g ≡ f = cc h in sym now ∙ ap (λ n. turn n g) same);
+  }
+  was_fetching (making e g q) d f h = absurd (cc h)
+  was_fetching (reading e g) d f h = absurd (cc h)
+  was_fetching (undoing v) d f h = absurd (cc h)
+
 module _ (o : Opening) (script : Script) (e : Engine) (kept : Kept o script e) (s trx d : ℕ) (turn : ℕ → Flight → Flight) (f : List Lob → List Lob) (halves : Halves trx d turn f e.store)
     (v : Undoer) (task_is : (e.sessions s).task ≡ undoing v) (is : (e.sessions s).trx ≡ Some trx) (held : e.locks d ≡ Some s) where
   abbrev new : Engine
@@ -117,10 +132,10 @@ module _ (o : Opening) (script : Script) (e : Engine) (kept : Kept o script e) (
 
   -- the document's rows before and behind: the newest is another, of the same transaction
   abbrev old_front : Past
-  old_front = record { trx = (row_before e.store d).trx; bytes = content_behind [] e.store.lobs (row_before e.store d) }
+  old_front = record { trx = (row_before e.store d).trx; length = (row_before e.store d).lob.length; bytes = content_behind [] e.store.lobs (row_before e.store d) }
 
   abbrev new_front : Past
-  new_front = record { trx = (row_before e.store d).trx; bytes = content_behind [] (f e.store.lobs) (row_before e.store d) }
+  new_front = record { trx = (row_before e.store d).trx; length = (row_before e.store d).lob.length; bytes = content_behind [] (f e.store.lobs) (row_before e.store d) }
 
   old_rows : (ps : List Past) × (store.history e.store d ≡ old_front ∷ ps)
   old_rows = rows_front [] e.store.lobs (row_before e.store d) (changes e.store d)
@@ -246,5 +261,14 @@ module _ (o : Opening) (script : Script) (e : Engine) (kept : Kept o script e) (
         let other : q ≢ d = (λ same.
         let one : t ≡ s = cc (sym its ∙ ap e.locks same ∙ held) in
         absurd (cc (sym was ∙ ap (λ (n : ℕ). (e.sessions n).task) one ∙ task_is))) in
-        record { change = m.change; is = m.is; doc = m.doc; reply = m.reply; ok = m.ok; ends = halves.elsewhere q other left ∙ m.ends };
+        record { change = m.change; is = m.is; doc = m.doc; reply = m.reply; ok = m.ok; measured = will_measured q e.store new.store (halves.elsewhere q other) left m.measured; ends = ap (option_map (completed left)) (halves.elsewhere q other).parts ∙ m.ends };
+    fetched = λ t q ps h.
+        let prior = was_fetching turn (e.sessions t).task q ps h in
+        let was = prior.is in
+        let its : e.locks q ≡ Some t = (kept.locks q).taken t (ap (has_lock q) was ∙ self_eq q) in
+        let other : q ≢ d = (λ same.
+        let one : t ≡ s = cc (sym its ∙ ap e.locks same ∙ held) in
+        absurd (cc (sym was ∙ ap (λ (n : ℕ). (e.sessions n).task) one ∙ task_is))) in
+        let held_so = fetch_kept q e.store new.store (halves.elsewhere q other) prior.before (kept.fetched t q prior.before was) in
+        subst (IsFetch new.store q) (sym (prior.now ∙ halves.still q prior.before held_so.node)) held_so;
   }

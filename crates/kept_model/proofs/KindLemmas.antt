@@ -25,9 +25,8 @@ use Rattle.read_model.specs.Document.{Sees}
 use Rattle.read_model.specs.Flight.{Flight, IsFlight}
 use Rattle.read_model.specs.OfStore.{document}
 use Rattle.read_model.proofs.ReadsLemmas.{reads_patched, reads_inserted, reads_rebuilt, reads_raised, reads_deleted}
-use Rattle.kept_model.specs.Engine.{Left}
 use Rattle.kept_model.specs.Sessions.{record_docs, records_of}
-use Rattle.kept_model.specs.Views.{completed, shown_by, will_show}
+use Rattle.kept_model.specs.Views.{shown_by, parts_shown}
 use Rattle.kept_model.specs.Plans.{Plans}
 use Rattle.kept_model.proofs.SessionLemmas.{is_eq}
 
@@ -71,13 +70,13 @@ log_with trx place u (l ∷ ls) some = by_test (nat_eq l.trx trx) refl some (λ 
 
 -- ---- rows of other documents
 
--- LOBs with the same parts at a row leave what it will show
-pub will_same : (left : Left) (old new : List Lob) (row : Row) → SameParts old new row → will_show left new row ≡ will_show left old row
-will_same left old new row same = by_state row.state refl
+-- LOBs with the same parts at a row leave what it shows
+pub shown_same : (old new : List Lob) (row : Row) → SameParts old new row → parts_shown new row ≡ parts_shown old row
+shown_same old new row same = by_state row.state refl
   where
-    by_state : (st : RowState) → row.state ≡ st → shown_by (completed left) st (parts new row.lob) ≡ shown_by (completed left) st (parts old row.lob)
+    by_state : (st : RowState) → row.state ≡ st → shown_by st (parts new row.lob) ≡ shown_by st (parts old row.lob)
     by_state absent is = refl
-    by_state live is = ap (λ (ps : List Part). Some (completed left ps)) (sym (same is))
+    by_state live is = ap (λ (ps : List Part). Some ps) (sym (same is))
     by_state deleted is = refl
 
 -- ---- a planned change
@@ -100,9 +99,11 @@ module _ (p : Plan) (new : Row → Row) (body : Body) (f : List Lob → List Lob
     logs = λ x other. log_on_other x p.trx (with_record p.place (record_of p (row_before store p.doc) body)) store.active (λ l. refl) other;
     log = log_with p.trx p.place (record_of p (row_before store p.doc) body) store.active may.log;
     reads = reads;
-    others = λ d other left.
-        ap (will_show left (f store.lobs)) (row-with_other p.doc d (new (row_before store p.doc)) (record store { active = on_log p.trx (with_record p.place (record_of p (row_before store p.doc) body)) store.active }) other)
-        ∙ will_same left store.lobs (f store.lobs) (row_before store d) (same d other);
+    others = λ d other. record {
+      parts = ap (parts_shown (f store.lobs)) (row-with_other p.doc d (new (row_before store p.doc)) (record store { active = on_log p.trx (with_record p.place (record_of p (row_before store p.doc) body)) store.active }) other)
+          ∙ shown_same store.lobs (f store.lobs) (row_before store d) (same d other);
+      row = λ is_live. row-with_other p.doc d (new (row_before store p.doc)) (record store { active = on_log p.trx (with_record p.place (record_of p (row_before store p.doc) body)) store.active }) other;
+    };
   }
 
 -- ---- the kinds

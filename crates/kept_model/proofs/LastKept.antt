@@ -1,5 +1,5 @@
 -- The event that undoes the last record of a transaction keeps all parts: sessions, views, reads.
-use Rattle.std.proofs.Common.{◌≡◌, ◌≢◌, inl, inr, ℕ, suc, ◌+◌, ◌≤◌, Bool, true, false, true≢false, ◌&&◌, ◌||◌, nat_eq, nat_lt, List, [], ◌∷◌, ◌++◌, Option, Some, None, refl, sym, ap, ap₂, subst, ◌∙◌}
+use Rattle.std.proofs.Common.{◌≡◌, ◌≢◌, inl, inr, ℕ, suc, ◌+◌, ◌≤◌, Bool, true, false, true≢false, ◌&&◌, ◌||◌, nat_eq, nat_lt, List, [], ◌∷◌, ◌++◌, Option, Some, None, refl, sym, ap, ap₂, subst, ◌∙◌, option_map}
 use Rattle.std.proofs.lemmas.Bool.{cases_eq}
 use Rattle.page_model.specs.Pages.{Address}
 use Rattle.journal_model.specs.Journal.{Script, Undoer, Opening}
@@ -16,7 +16,7 @@ use Rattle.read_model.specs.OfStore.{document}
 use Rattle.kept_model.specs.Rows.{AreNamed}
 use Rattle.kept_model.specs.Stored.{Front, undone, front, IsStoredBy, known_from, IsStored}
 use Rattle.kept_model.specs.Sessions.{IsSession, own_docs, record_docs, records_of, session_records, HasRecords, IsLogged, has_lock, AreLocks}
-use Rattle.kept_model.specs.Views.{AllPast, IsViewIn, IsViewed, IsReadOf, IsRead, IsMaking}
+use Rattle.kept_model.specs.Views.{AllPast, IsViewIn, IsViewed, IsReadOf, IsRead, IsMaking, completed}
 use Rattle.kept_model.specs.Kept.{AreCounts, AreGiven, Kept}
 use Rattle.kept_model.specs.Undoes.{handed_task, handed_session}
 use Rattle.kept_model.specs.Lasts.{Ends, last_event}
@@ -24,11 +24,13 @@ use Rattle.kept_model.proofs.SessionLemmas.{self_eq, is_eq, apart_of}
 use Rattle.history_model.specs.Sound.{OfOwners}
 use Rattle.kept_model.proofs.SessionLemmas.{by_session}
 use Rattle.kept_model.proofs.UndoRows.{HasTwo, second_old, among_more}
-use Rattle.kept_model.proofs.UndoRows.{handed_count, handed_at, handed_reading, handed_records, handed_lock, was_reading, was_making}
+use Rattle.kept_model.proofs.UndoRows.{handed_count, handed_at, handed_reading, handed_records, handed_lock, was_reading, was_making, was_fetching}
 use Rattle.std.proofs.lemmas.List.{append-nil}
 use Rattle.kept_model.proofs.UndoneLemmas.{none_for}
 use Rattle.kept_model.proofs.ReadLemmas.{rows_off as other_rows, both_past}
 use Rattle.kept_model.proofs.LastRows as part
+use Rattle.kept_model.specs.Fetches.{IsFetched, IsFetch}
+use Rattle.kept_model.proofs.FetchRows.{fetch_kept, fetch_handed, will_measured}
 
 module _ (o : Opening) (script : Script) (e : Engine) (kept : Kept o script e) (s trx : ℕ) (place : Address) (u : Record) (next : Store) (undoes : Ends trx place u e.store next)
     (v : Undoer) (task_is : (e.sessions s).task ≡ undoing v) (is : (e.sessions s).trx ≡ Some trx)
@@ -253,7 +255,16 @@ module _ (o : Opening) (script : Script) (e : Engine) (kept : Kept o script e) (
       let m = kept.making t d left r was in
       let its : e.locks d ≡ Some t = (kept.locks d).taken t (ap (has_lock d) was ∙ self_eq d) in
       let other : d ≢ u.doc = (λ same. apart_of t s (cc (sym its ∙ ap e.locks same ∙ held)) apart) in
-      record { change = m.change; is = m.is; doc = m.doc; reply = m.reply; ok = m.ok; ends = undoes.elsewhere d other left ∙ m.ends })
+      record { change = m.change; is = m.is; doc = m.doc; reply = m.reply; ok = m.ok; measured = will_measured d e.store next (undoes.elsewhere d other) left m.measured; ends = ap (option_map (completed left)) (undoes.elsewhere d other).parts ∙ m.ends })
+
+  fetched_kept : (t : ℕ) → IsFetched next (new.sessions t)
+  fetched_kept = by_session (λ t y. IsFetched next y) s x' handed (λ d g h. absurd (cc (sym task_is ∙ h)))
+      (λ t apart d ps h.
+      let prior = was_fetching u.doc place u (e.sessions t).task d ps h in
+      let was = prior.is in
+      let its : e.locks d ≡ Some t = (kept.locks d).taken t (ap (has_lock d) was ∙ self_eq d) in
+      let other : d ≢ u.doc = (λ same. apart_of t s (cc (sym its ∙ ap e.locks same ∙ held)) apart) in
+      subst (IsFetch next d) (sym prior.now) (fetch_handed next u.doc place u d prior.before other (fetch_kept d e.store next (undoes.elsewhere d other) prior.before (kept.fetched t d prior.before was))))
 
   pub last_keeps : Kept o script new
   last_keeps = record {
@@ -270,4 +281,5 @@ module _ (o : Opening) (script : Script) (e : Engine) (kept : Kept o script e) (
     views = views_kept;
     reads = reads_kept;
     making = making_kept;
+    fetched = fetched_kept;
   }

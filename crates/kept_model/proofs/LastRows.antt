@@ -122,11 +122,11 @@ module _ (o : Opening) (script : Script) (e : Engine) (kept : Kept o script e) (
   first_trx = two.trx ∙ (subst (IsChain (row_before e.store u.doc)) (changes-popped trx place u e.store newest) (kept.consistent.well.chains u.doc)).0.trx
 
   -- the rest of the rows, or an absent row
-  pub all_new : (P : List Past → Type 0) → P (two.second ∷ two.rest) → (two.rest ≡ [] → two.second.bytes ≡ None → P (record { trx = 0; bytes = None } ∷ [])) → P (store.history next u.doc)
+  pub all_new : (P : List Past → Type 0) → P (two.second ∷ two.rest) → (two.rest ≡ [] → two.second.bytes ≡ None → P (record { trx = 0; length = 0; bytes = None } ∷ [])) → P (store.history next u.doc)
   all_new P here gone = elim undoes.restores [
     | inl same ↦ subst P (sym (same ∙ ap all_but_first two.is)) here
     | inr none ↦
-        let front : two.second ∷ two.rest ≡ record { trx = u.before.trx; bytes = None } ∷ [] = sym (ap all_but_first two.is) ∙ none.1 in
+        let front : two.second ∷ two.rest ≡ record { trx = u.before.trx; length = u.before.lob.length; bytes = None } ∷ [] = sym (ap all_but_first two.is) ∙ none.1 in
         subst P (sym none.0) (gone (cc front) (bytes_of_first front))
   ]
     where
@@ -176,7 +176,7 @@ module _ (o : Opening) (script : Script) (e : Engine) (kept : Kept o script e) (
       (subst (λ (f : Front). IsStoredBy (known_from o e.store) script e.journal (history o script e.journal u.doc) f (is_purging e.store.committed) (suc e.store.purged) (is_old e.store) (names_of e) (store.history e.store u.doc)) front_is (kept.stored u.doc)) in
       all_new IsBy stepped (λ none nothing.
       row_gone (known_from o e.store) script e.journal e.journal (is_purging e.store.committed) (suc e.store.purged) (is_old e.store) (names_of e) (two.second ∷ []) s
-      (history o script e.journal u.doc) two.second (record { trx = 0; bytes = None }) refl nothing refl kept.zero
+      (history o script e.journal u.doc) two.second (record { trx = 0; length = 0; bytes = None }) refl nothing refl kept.zero
       (subst (λ (qs : List Past). IsBy (two.second ∷ qs)) none stepped))
 
   pub stored_kept : (d : ℕ) → IsStored o script new d

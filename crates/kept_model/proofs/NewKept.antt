@@ -1,7 +1,7 @@
 -- The engine of a new store keeps all parts.
 use Rattle.std.proofs.Common.{◌≡◌, ℕ, Bool, true, false, true≢false, List, [], ◌∷◌, Option, Some, None, refl, sym, arith}
 use Rattle.journal_model.specs.Journal.{Script, new_store}
-use Rattle.kept_model.specs.Kept.{Kept}
+use Rattle.kept_model.specs.Kept.{Kept, KeptPages}
 use Rattle.kept_model.specs.First.{new_engine}
 
 -- all parts hold of the engine of a new store, whatever the script
@@ -45,7 +45,7 @@ kept_new pages script = record {
     are_undone = refl;
     are_passed = refl;
     named = refl;
-    known = refl;
+    known = (refl, λ bs is. absurd (cc is));
   };
   at = λ s. record { count = refl; at = refl; level = refl; since = λ still. refl };
   logged = λ s. record { records = refl; some = λ trx has. absurd (cc has) };
@@ -57,4 +57,28 @@ kept_new pages script = record {
   views = λ s. record { commits = refl; sees = λ v has. absurd (cc has) };
   reads = λ s d f h. absurd (cc h);
   making = λ s d left r h. absurd (cc h);
+  fetched = λ s d f h. absurd (cc h);
+}
+
+-- and no version is held
+pub pages_new : (pages : ℕ) (script : Script) → KeptPages (new_store pages) script new_engine
+pages_new pages script = record {
+  held = λ d. record {
+    ahead = [];
+    gone = [];
+    left = [];
+    half = [];
+    passed = [];
+    is = refl;
+    is_ahead = refl;
+    are_undone = refl;
+    is_half = refl;
+    are_passed = refl;
+    theirs = tt;
+    done = [];
+    dropped = [];
+    is_done = tt;
+    are_dropped = tt;
+    held = refl;
+  };
 }

@@ -9,12 +9,12 @@ use Rattle.kept_model.specs.Engine.{Task, idle, asking, fetching, undoing, Sessi
 use Rattle.kept_model.specs.Sessions.{IsAt, under_way_in, has_lock}
 use Rattle.kept_model.specs.Kept.{Kept}
 use Rattle.kept_model.specs.Answers.{IsRefusedBy, answer_event}
-use Rattle.store_data.specs.Pieces.{Part}
 use Rattle.kept_model.proofs.SessionLemmas.{self_eq}
 use Rattle.kept_model.proofs.CommitLegal.{if_some, not_due}
 use Rattle.kept_model.proofs.AnswerRows.{alone_holds}
 use Rattle.kept_model.proofs.PlainKept.{IsPlain, IsUnplanned}
 use Rattle.kept_model.proofs.RefusedEvents.{part_inside, part_outside, inside_keeps, outside_keeps}
+use Rattle.read_model.specs.Flight.{Flight}
 
 abbrev gets : Reply → Bool
 gets r = not (is_deadlock r) && not (is_memory r)
@@ -121,7 +121,7 @@ module _ (o : Opening) (script : Script) (e : Engine) (kept : Kept o script e) (
 
     outside_not_made : (e.sessions s).level ≡ None → Kept o script (answer_event s i r idle e)
     outside_not_made level_is = outside_keeps o script e kept s i r allowed count none closed goes was idle tt refl level_is ends_outside
-        (ap has_deadlock (part_outside o script e kept s i r allowed count none closed goes was idle tt refl level_is ends_outside)) (λ q f h. absurd (cc h)) (λ q. refl)
+        (ap has_deadlock (part_outside o script e kept s i r allowed count none closed goes was idle tt refl level_is ends_outside)) (λ q f h. absurd (cc h)) (λ q ps h. absurd (cc h)) (λ q. refl)
 
     module _ (l : Level) (level_is : (e.sessions s).level ≡ Some l) where
       part_is : part script s after ≡ Did s i r ∷ part script s e.journal
@@ -171,13 +171,13 @@ module _ (o : Opening) (script : Script) (e : Engine) (kept : Kept o script e) (
       inside_not_made : (k : Task) → IsUnplanned k → under_way_in k ≡ 0 → IsAt script after s k → ((q : ℕ) → has_lock q k ≡ false) → ((q : ℕ) (f : _) → k ≡ Rattle.kept_model.specs.Engine.reading q f → ⊥)
           → Kept o script (answer_event s i r k e)
       inside_not_made k unplanned over at no_lock not_read = inside_keeps o script e kept s i r allowed count none closed goes was k unplanned over l level_is ends_inside at
-          (λ q f h. absurd (not_read q f h)) held_was
+          (λ q f h. absurd (not_read q f h)) (λ q ps h. absurd (true≢false (sym (ap (has_lock q) h ∙ self_eq q) ∙ no_lock q))) held_was
           (λ q h. elim (meant_now q h) [ inl a ↦ inl a | inr more ↦ elim more [ inl a ↦ inr (inl a) | inr a ↦ absurd (true≢false (sym a)) ] ])
           (λ q h. absurd (true≢false (sym h ∙ no_lock q)))
 
   -- ---- it has read its document
 
-  module _ (ps : List Part) (task_is : (e.sessions s).task ≡ fetching (call_doc c) ps) where
+  module _ (ps : Flight) (task_is : (e.sessions s).task ≡ fetching (call_doc c) ps) where
     fetch_count : started s e.journal ≡ answered s e.journal + 1
     fetch_count = (kept.at s).count ∙ ap (λ (k : Task). answered s e.journal + under_way_in k) task_is
 
@@ -242,7 +242,7 @@ module _ (o : Opening) (script : Script) (e : Engine) (kept : Kept o script e) (
 
   -- ---- want of memory, before it is planned
 
-  pub memory_keeps : ((e.sessions s).task ≡ asking (call_doc c)) ⊎ ((ps : List Part) × ((e.sessions s).task ≡ fetching (call_doc c) ps)) → Kept o script (answer_event s i memory idle e)
+  pub memory_keeps : ((e.sessions s).task ≡ asking (call_doc c)) ⊎ ((ps : Flight) × ((e.sessions s).task ≡ fetching (call_doc c) ps)) → Kept o script (answer_event s i memory idle e)
   memory_keeps at_work = by_level (e.sessions s).level refl
     where
       may_memory : MayAnswer o script s i memory e.journal

@@ -1,18 +1,18 @@
 -- The event that purges a record whole keeps all parts.
-use Rattle.std.proofs.Common.{◌≡◌, ◌≢◌, inl, inr, ℕ, suc, ◌≤◌, ◌<◌, Bool, true, false, true≢false, not, ◌&&◌, ◌||◌, nat_eq, nat_lt, nat_le, List, [], ◌∷◌, ◌++◌, Option, Some, None, refl, sym, ap, ap₂, subst, ◌∙◌, arith, if◌then◌else◌}
+use Rattle.std.proofs.Common.{◌≡◌, inl, inr, ℕ, suc, ◌≤◌, ◌<◌, Bool, true, false, true≢false, not, ◌&&◌, ◌||◌, nat_eq, nat_lt, nat_le, List, [], ◌∷◌, ◌++◌, Option, Some, None, refl, sym, ap, ap₂, subst, ◌∙◌, arith, if◌then◌else◌, option_map}
 use Rattle.std.proofs.lemmas.Bool.{cases_eq}
-use Rattle.journal_model.specs.Journal.{Script, Entry, Opening}
+use Rattle.journal_model.specs.Journal.{Script, Opening}
 use Rattle.journal_model.specs.Held.{greater}
-use Rattle.journal_model.specs.History.{Owner, session, commit, Made, is_among, history}
+use Rattle.journal_model.specs.History.{Owner, session, commit, is_among, history}
 use Rattle.store_data.specs.Store.{Record, Log, Store}
 use Rattle.store_model.specs.History.{Past, stands, stands_above}
 use Rattle.store_model.specs.History as store
-use Rattle.kept_model.specs.Engine.{ReadView, is_own, sees_by, Left, making, Engine}
+use Rattle.kept_model.specs.Engine.{ReadView, is_own, sees_by, Engine}
 use Rattle.kept_model.specs.Names.{trx_numbered, names_of, is_begun, is_purging, floor, is_old, AreNumbered, IsFirstBegun, AreLogs}
-use Rattle.kept_model.specs.Rows.{AreNamed, SameTrx}
-use Rattle.kept_model.specs.Stored.{Front, whole, begun, front_of, front_by, front, IsAhead, IsStoredBy, known_from, IsStored}
+use Rattle.kept_model.specs.Rows.{SameTrx}
+use Rattle.kept_model.specs.Stored.{front, IsStoredBy, known_from, IsStored}
 use Rattle.kept_model.specs.Sessions.{session_records, records_of, has_lock, IsLogged}
-use Rattle.kept_model.specs.Views.{AllPast, IsViewIn}
+use Rattle.kept_model.specs.Views.{AllPast, IsViewIn, completed}
 use Rattle.kept_model.specs.Kept.{Kept}
 use Rattle.kept_model.specs.Passes.{Passes, pass_event}
 use Rattle.kept_model.proofs.PassedLemmas.{record_passes, purge_works, base_swapped}
@@ -20,6 +20,7 @@ use Rattle.kept_model.proofs.PlanKept.{stored_over}
 use Rattle.kept_model.proofs.SessionLemmas.{self_eq}
 use Rattle.kept_model.proofs.CommitRows.{all_past}
 use Rattle.kept_model.proofs.UndoRows.{among_more}
+use Rattle.kept_model.proofs.FetchRows.{fetch_kept, will_measured}
 
 -- the second of two numbers is at most the greater
 pub greater_second : (a b : ℕ) → b ≤ greater a b
@@ -43,7 +44,7 @@ pub past_same : (P : ℕ → Type 0) (ps qs : List Past) → SameTrx ps qs → A
 past_same P [] [] same all = tt
 past_same P [] (q ∷ qs) same all = absurd same
 past_same P (p ∷ ps) [] same all = absurd same
-past_same P (p ∷ ps) (q ∷ qs) same all = (subst P (sym same.0) all.0, past_same P ps qs same.1 all.1)
+past_same P (p ∷ ps) (q ∷ qs) same all = (subst P (sym same.0.0) all.0, past_same P ps qs same.1 all.1)
 
 module _ (o : Opening) (script : Script) (e : Engine) (kept : Kept o script e) (l : Log) (ls : List Log) (u : Record) (next : Store)
     (first : e.store.committed ≡ l ∷ ls) (begun_is : is_begun l.state ≡ true) (passes : Passes l ls u e.store next) where
@@ -154,8 +155,8 @@ module _ (o : Opening) (script : Script) (e : Engine) (kept : Kept o script e) (
       elim passes.now [
         | inl same ↦ subst (By u.doc) (sym same) worked
         | inr swept ↦ subst (By u.doc) (sym swept.3)
-            (base_swapped script e.journal e.journal (history o script e.journal u.doc) (front e u.doc) n (is_old e.store) (names_of e) (known_from o e.store) true swept.0 (record { trx = 0; bytes = None })
-            (sym swept.2) kept.zero (subst (By u.doc) swept.1 worked))
+            (base_swapped script e.journal e.journal (history o script e.journal u.doc) (front e u.doc) n (is_old e.store) (names_of e) (known_from o e.store) true swept.0 (record { trx = 0; length = 0; bytes = None })
+            (sym swept.2) (λ bs is. absurd (cc is)) kept.zero (subst (By u.doc) swept.1 worked))
       ]
 
   stored_kept : (q : ℕ) → IsStored o script new q
@@ -229,19 +230,6 @@ module _ (o : Opening) (script : Script) (e : Engine) (kept : Kept o script e) (
       or_true true = refl
       or_true false = refl
 
-  -- the newest row of a change that is made isn't the purged transaction's
-  not_own : (t d : ℕ) (left : Left) (r : Rattle.journal_model.specs.Journal.Reply) → (e.sessions t).task ≡ making d left r → d ≡ u.doc → passes.newer ≢ []
-  not_own t d left r h here none =
-      let mine : e.locks d ≡ Some t = (kept.locks d).taken t (ap (has_lock d) h ∙ self_eq d) in
-      let f_is : front e d ≡ begun t = ap (λ (m : Option ℕ). front_by d m e.sessions) mine ∙ ap (front_of d t) h ∙ ap (λ (b : Bool). if b then begun t else whole) (self_eq d) in
-      let f_own : front e u.doc ≡ begun t = ap (front e) (sym here) ∙ f_is in
-      let k = was u.doc in
-      let ahead = subst (λ (f : Front). IsAhead script e.journal (history o script e.journal u.doc) f k.ahead) f_own k.is_ahead in
-      let rows : store.history e.store u.doc ≡ passes.own ∷ passes.before ∷ [] = passes.was ∙ ap (λ (ps : List Past). ps ++ (passes.own ∷ passes.before ∷ [])) none in
-      let named = subst (λ (a : List Made). AreNamed (names_of e) (is_old e.store) (a ++ k.left) (passes.own ∷ passes.before ∷ [])) ahead.2
-      (subst (AreNamed (names_of e) (is_old e.store) (k.ahead ++ k.left)) rows k.named) in
-      absurd (true≢false (sym (kept.logs.own t l.trx (named.0 ∙ ap (λ (m : ℕ). Some m) passes.mine)).0 ∙ its.0))
-
   pub pass_keeps : Kept o script new
   pass_keeps = record {
     calm = kept.calm;
@@ -271,7 +259,8 @@ module _ (o : Opening) (script : Script) (e : Engine) (kept : Kept o script e) (
           flight = passes.reads (sees_by (e.sessions t).trx rd.view) d rd.parts f (seen_so t rd.view l.trx (seen_own rd.view inside)) (seen_so t rd.view 0 inside.zero) rd.flight;
         };
     making = λ t d left r h. let m = kept.making t d left r h in
-        record { change = m.change; is = m.is; doc = m.doc; reply = m.reply; ok = m.ok; ends = passes.shows d (not_own t d left r h) left ∙ m.ends };
+        record { change = m.change; is = m.is; doc = m.doc; reply = m.reply; ok = m.ok; measured = will_measured d e.store next (passes.shows d) left m.measured; ends = ap (option_map (completed left)) (passes.shows d).parts ∙ m.ends };
+    fetched = λ t d ps h. fetch_kept d e.store next (passes.shows d) ps (kept.fetched t d ps h);
   }
     where
       by_trx : (m : Option ℕ) → session_records next m ≡ session_records e.store m

@@ -21,12 +21,12 @@ use Rattle.store_model.proofs.ConsistentLemmas.{pass_consistent}
 use Rattle.store_model.proofs.GivesLemmas.{pass_chain, own_same, others_same, before_elsewhere}
 use Rattle.store_model.specs.Keeps.{Frees}
 use Rattle.read_model.proofs.ReadsLemmas.{reads_passed}
-use Rattle.kept_model.specs.Engine.{Left}
 use Rattle.kept_model.specs.Rows.{SameTrx, SameTo}
-use Rattle.kept_model.specs.Views.{will_show}
+use Rattle.kept_model.specs.Views.{shown_by, parts_shown}
 use Rattle.kept_model.specs.Passes.{Passes}
-use Rattle.kept_model.proofs.KindLemmas.{will_same}
+use Rattle.kept_model.proofs.KindLemmas.{shown_same}
 use Rattle.kept_model.proofs.ReadKept.{entries_distinct}
+use Rattle.kept_model.specs.Fetches.{KeepsNewest}
 
 -- ---- rows without the oldest
 
@@ -45,19 +45,19 @@ split later lobs row [] c = record { newer = []; own = _; before = _; all = refl
 split later lobs row (d ∷ cs) c =
     let rest = split (later ++ d.undo ∷ []) lobs d.undo.before cs c in
     record {
-      newer = record { trx = row.trx; bytes = Rattle.store_model.specs.History.content_behind later lobs row } ∷ rest.newer;
+      newer = record { trx = row.trx; length = row.lob.length; bytes = Rattle.store_model.specs.History.content_behind later lobs row } ∷ rest.newer;
       own = rest.own;
       before = rest.before;
-      all = ap (λ (ps : List Past). record { trx = row.trx; bytes = Rattle.store_model.specs.History.content_behind later lobs row } ∷ ps) rest.all;
-      front = ap (λ (ps : List Past). record { trx = row.trx; bytes = Rattle.store_model.specs.History.content_behind later lobs row } ∷ ps) rest.front;
+      all = ap (λ (ps : List Past). record { trx = row.trx; length = row.lob.length; bytes = Rattle.store_model.specs.History.content_behind later lobs row } ∷ ps) rest.all;
+      front = ap (λ (ps : List Past). record { trx = row.trx; length = row.lob.length; bytes = Rattle.store_model.specs.History.content_behind later lobs row } ∷ ps) rest.front;
       trx = λ chain. rest.trx chain.1;
       some = λ no e. cc e;
     }
 
 -- other LOBs leave the transactions of a history's rows
 pub same_trx : (old new : List Lob) (row : Row) (cs : List Change) → SameTrx (history_on old row cs) (history_on new row cs)
-same_trx old new row [] = (refl, tt)
-same_trx old new row (c ∷ cs) = (refl, same_trx (lobs_laid (old_runs c.undo.body) old) (lobs_laid (old_runs c.undo.body) new) c.undo.before cs)
+same_trx old new row [] = ((refl, refl), tt)
+same_trx old new row (c ∷ cs) = ((refl, refl), same_trx (lobs_laid (old_runs c.undo.body) old) (lobs_laid (old_runs c.undo.body) new) c.undo.before cs)
 
 to_laid : (trx : ℕ) (rs : List Rattle.store_data.specs.Store.Run) (old new : List Lob) (row : Row) (cs : List Change) → AllTo trx (SameParts old new) row cs → AllTo trx (SameParts (lobs_laid rs old) (lobs_laid rs new)) row cs
 to_laid trx rs old new row [] all = same-laid rs old new row all
@@ -145,7 +145,7 @@ module _ (a : Address) (u : Record) (store : Store) (l : Log) (ls : List Log) (a
       | inr gone ↦
           let so = swept_so gone.2 gone.3 in
           inr (
-            record { trx = (row_before store u.doc).trx; bytes = Rattle.store_model.specs.History.content_behind [] (cleared u.body u.before store.lobs) (row_before store u.doc) },
+            record { trx = (row_before store u.doc).trx; length = (row_before store u.doc).lob.length; bytes = Rattle.store_model.specs.History.content_behind [] (cleared u.body u.before store.lobs) (row_before store u.doc) },
             ap (history_behind [] (cleared u.body u.before store.lobs) (row_before store u.doc)) so.1,
             ap (λ (s : RowState). shown s (map (Rattle.store_model.specs.Runs.put_back []) (parts (cleared u.body u.before store.lobs) (row_before store u.doc).lob))) so.0,
             rows_are absent_row gone.0 ∙ ap (history_behind [] (cleared u.body u.before store.lobs) absent_row) so.1,
@@ -167,7 +167,7 @@ module _ (a : Address) (u : Record) (store : Store) (l : Log) (ls : List Log) (a
         (entries_distinct (changes store u.doc) (all.well.places u.doc))
         (λ q other frees. before_elsewhere a u store l ls all.well first oldest q (λ e. other (sym e)) (freed_live u.body (last_kind (row_before store u.doc) cs (change l.trx a u) chain).0 u.before (last_kind (row_before store u.doc) cs (change l.trx a u) chain).1 frees))
         ((known, zero), tt) (h, tt)).0;
-    shows = λ d some left. by_doc d some left;
+    shows = by_doc;
   }
     where
       by_bool : (P : Store → Type 0) (b : Bool) → P mid → P (Rattle.store_model.specs.Steps.without_row u.doc mid) → P (Rattle.std.proofs.Common.cond b (Rattle.store_model.specs.Steps.without_row u.doc mid) mid)
@@ -209,19 +209,28 @@ module _ (a : Address) (u : Record) (store : Store) (l : Log) (ls : List Log) (a
       committed_same (patched old) = refl
       committed_same removed = by_bool (λ st. st.committed ≡ store.committed) (is_newest a l.trx (row_of mid u.doc)) refl refl
 
-      shows_same : (d : ℕ) (left : Left) → row_before new d ≡ row_before store d → SameParts store.lobs (cleared u.body u.before store.lobs) (row_before store d) → will_show left new.lobs (row_before new d) ≡ will_show left store.lobs (row_before store d)
-      shows_same d left is same =
-          ap₂ (will_show left) (swept_lobs u.body a l.trx u.doc mid) is ∙ will_same left store.lobs (cleared u.body u.before store.lobs) (row_before store d) same
+      shows_same : (d : ℕ) → row_before new d ≡ row_before store d → SameParts store.lobs (cleared u.body u.before store.lobs) (row_before store d) → KeepsNewest d store new
+      shows_same d is same = record {
+        parts = ap₂ parts_shown (swept_lobs u.body a l.trx u.doc mid) is ∙ shown_same store.lobs (cleared u.body u.before store.lobs) (row_before store d) same;
+        row = λ is_live. is;
+      }
 
-      by_doc : (d : ℕ) → (d ≡ u.doc → parted.newer ≢ []) → (left : Left) → will_show left new.lobs (row_before new d) ≡ will_show left store.lobs (row_before store d)
-      by_doc d some left = elim (cases_eq d u.doc) [
-        | inl here ↦ subst (λ (q : ℕ). will_show left new.lobs (row_before new q) ≡ will_show left store.lobs (row_before store q)) (sym here)
+      -- a deleted row that goes showed nothing
+      none_shown : row_before new u.doc ≡ absent_row → (row_before store u.doc).state ≡ deleted → KeepsNewest u.doc store new
+      none_shown gone was = record {
+        parts = ap (parts_shown new.lobs) gone ∙ sym (ap (λ (s : RowState). shown_by s (parts store.lobs (row_before store u.doc).lob)) was);
+        row = λ is_live. absurd (cc (sym was ∙ is_live));
+      }
+
+      by_doc : (d : ℕ) → KeepsNewest d store new
+      by_doc d = elim (cases_eq d u.doc) [
+        | inl here ↦ subst (λ (q : ℕ). KeepsNewest q store new) (sym here)
             (elim (swept_row u.body a l.trx u.doc u.doc mid) [
-              | inl kept ↦ shows_same u.doc left kept (first_of l.trx (SameParts store.lobs (cleared u.body u.before store.lobs)) (row_before store u.doc) cs same_parts)
-              | inr gone ↦ absurd (parted.some (some here) (swept_so gone.2 gone.3).1)
+              | inl kept ↦ shows_same u.doc kept (first_of l.trx (SameParts store.lobs (cleared u.body u.before store.lobs)) (row_before store u.doc) cs same_parts)
+              | inr gone ↦ none_shown gone.0 (swept_so gone.2 gone.3).0
             ])
         | inr other ↦ elim (swept_row u.body a l.trx u.doc d mid) [
-          | inl kept ↦ shows_same d left kept (others_same a u store l ls all.well first oldest d (λ e. other (sym e))).0
+          | inl kept ↦ shows_same d kept (others_same a u store l ls all.well first oldest d (λ e. other (sym e))).0
           | inr gone ↦ absurd (other gone.1)
         ]
       ]

@@ -1,5 +1,5 @@
 -- Starts, waits, grants, and rollbacks begun.
-use Rattle.std.proofs.Common.{◌≡◌, ◌≢◌, ◌⊎◌, inl, ℕ, ◌+◌, ◌≤◌, true, false, not, ◌&&◌, List, [], ◌∷◌, length, Option, Some, None, IsSome, option_and_then, refl, sym, ap, ap₂, subst, ◌∙◌, arith}
+use Rattle.std.proofs.Common.{◌≡◌, ◌≢◌, ◌⊎◌, inl, ℕ, ◌+◌, ◌≤◌, true, false, not, ◌&&◌, List, ◌∷◌, length, Option, Some, None, IsSome, option_and_then, refl, sym, ap, ap₂, subst, ◌∙◌, arith}
 use Rattle.journal_model.specs.Documents.{Call, call_doc}
 use Rattle.journal_model.specs.Journal.{Script, Level, Statement, call, rollback, statement, statements, by_rollback, by_end, Entry, Start, Wait, Opening}
 use Rattle.journal_model.specs.Held.{is_in}
@@ -7,7 +7,6 @@ use Rattle.journal_model.specs.Part.{level_in, part, started, answered, unanswer
 use Rattle.journal_model.specs.Locks.{sessions, changes, asks, has_change, holder}
 use Rattle.journal_model.specs.Legal.{has_deadlock, has_waited, is_met, Allowed}
 use Rattle.history_model.proofs.OwnLemmas.{start_stays, wait_stays}
-use Rattle.store_data.specs.Pieces.{Part}
 use Rattle.kept_model.specs.Engine.{ReadView, Task, idle, asking, fetching, undoing, Session, Engine}
 use Rattle.kept_model.specs.Sessions.{IsAt, under_way_in, is_reading, has_lock}
 use Rattle.kept_model.specs.Views.{IsRead}
@@ -17,6 +16,9 @@ use Rattle.kept_model.proofs.CommitLegal.{not_due, unanswered_started, start_all
 use Rattle.kept_model.proofs.PlainKept.{IsPlain, IsUnplanned, leaves_none, leaves_start, leaves_wait, IsPlainEvent, plain_quiet}
 use Rattle.kept_model.proofs.PlainLemmas.{part_start, part_wait, count_start, view_none, locks_same, locks_granted, granted_goes}
 use Rattle.kept_model.proofs.QuietKept.{quiet_keeps}
+use Rattle.kept_model.specs.Fetches.{IsFetched, IsFetch, fetch_begun, fetch_event}
+use Rattle.kept_model.proofs.FetchRows.{fetch_begins, fetch_goes_on}
+use Rattle.read_model.specs.Flight.{Flight}
 
 plus_none : (n : ℕ) → n + 0 ≡ n
 plus_none n = grind arith
@@ -55,8 +57,8 @@ module _ (o : Opening) (script : Script) (e : Engine) (kept : Kept o script e) (
   deadlock_started = ap has_deadlock (part_start script s e.journal i) ∙ idle_deadlock
 
   pub start_plain : (k : Task) → IsUnplanned k → under_way_in k ≡ 1 → IsAt script after s k → ((q : ℕ) → has_lock q k ≡ false) → IsRead o script after e.store s (record (e.sessions s) { task = k })
-      → IsPlainEvent o script s (record (e.sessions s) { task = k }) e.locks after e
-  start_plain k unplanned one at no_lock reads = record {
+      → IsFetched e.store (record (e.sessions s) { task = k }) → IsPlainEvent o script s (record (e.sessions s) { task = k }) e.locks after e
+  start_plain k unplanned one at no_lock reads fetched = record {
     leaves = leaves_start o script s e.journal i;
     calm = record { legal = (kept.calm.legal, may_start); commit = refl; restart = refl };
     was = subst IsPlain (sym free) tt;
@@ -71,6 +73,7 @@ module _ (o : Opening) (script : Script) (e : Engine) (kept : Kept o script e) (
     view = (kept.views s).commits ∙ sym view_started;
     sees = (kept.views s).sees;
     reads = reads;
+    fetched = fetched;
     locked = locks_same o script e kept s (record (e.sessions s) { task = k }) after (leaves_start o script s e.journal i)
         (λ q. ap (has_change script (λ r. not (Rattle.journal_model.specs.Part.is_deadlock r) && not (Rattle.journal_model.specs.Part.is_memory r)) q) (part_start script s e.journal i))
         (λ q. ap (λ (p : List Entry). has_change script Rattle.journal_model.specs.Part.is_memory q p && not (has_change script (λ r. not (Rattle.journal_model.specs.Part.is_deadlock r) && not (Rattle.journal_model.specs.Part.is_memory r)) q p)) (part_start script s e.journal i))
@@ -82,7 +85,7 @@ module _ (o : Opening) (script : Script) (e : Engine) (kept : Kept o script e) (
   pub asked_keeps : (c : Call) → statement script s i ≡ Some (call c) → Kept o script (quiet_event s (record (e.sessions s) { task = asking (call_doc c) }) e.locks after e)
   asked_keeps c is = quiet_keeps o script e kept s (record (e.sessions s) { task = asking (call_doc c) }) e.locks after
       (plain_quiet o script e kept s (record (e.sessions s) { task = asking (call_doc c) }) e.locks after
-      (start_plain (asking (call_doc c)) tt refl (starts_change (call c) is, deadlock_started) (λ q. refl) (λ q f h. absurd (cc h))))
+      (start_plain (asking (call_doc c)) tt refl (starts_change (call c) is, deadlock_started) (λ q. refl) (λ q f h. absurd (cc h)) (λ q ps h. absurd (cc h))))
 
   -- a rollback by statement
   pub rollback_keeps : statement script s i ≡ Some rollback → IsSome (e.sessions s).level → Kept o script (quiet_event s (record (e.sessions s) { task = undoing by_rollback }) e.locks after e)
@@ -90,7 +93,7 @@ module _ (o : Opening) (script : Script) (e : Engine) (kept : Kept o script e) (
       (plain_quiet o script e kept s (record (e.sessions s) { task = undoing by_rollback }) e.locks after
       (start_plain (undoing by_rollback) tt refl
       (starts rollback is, subst IsSome ((kept.at s).level ∙ sym (start_stays script s e.journal s i).level_stays) inside, deadlock_started)
-      (λ q. refl) (λ q f h. absurd (cc h))))
+      (λ q. refl) (λ q f h. absurd (cc h)) (λ q ps h. absurd (cc h))))
 
 -- ---- no entry, or one that leaves the session's statement
 
@@ -98,8 +101,8 @@ module _ (o : Opening) (script : Script) (e : Engine) (kept : Kept o script e) (
   still_plain : (k : Task) → IsPlain (e.sessions s).task → IsUnplanned k → under_way_in k ≡ under_way_in (e.sessions s).task → IsAt script e.journal s k → is_reading k ≡ is_reading (e.sessions s).task
       → (locks : ℕ → Option ℕ) → ((d : ℕ) → Rattle.kept_model.specs.Sessions.AreLocks script e.journal locks (Rattle.kept_model.specs.Engine.with_session s (record (e.sessions s) { task = k }) e.sessions) d)
       → ((q : ℕ) → Rattle.kept_model.proofs.PlainKept.Goes s (e.locks q) (locks q)) → IsRead o script e.journal e.store s (record (e.sessions s) { task = k })
-      → Kept o script (quiet_event s (record (e.sessions s) { task = k }) locks e.journal e)
-  still_plain k was unplanned count at reading locks locked goes reads = quiet_keeps o script e kept s (record (e.sessions s) { task = k }) locks e.journal
+      → IsFetched e.store (record (e.sessions s) { task = k }) → Kept o script (quiet_event s (record (e.sessions s) { task = k }) locks e.journal e)
+  still_plain k was unplanned count at reading locks locked goes reads fetched = quiet_keeps o script e kept s (record (e.sessions s) { task = k }) locks e.journal
       (plain_quiet o script e kept s (record (e.sessions s) { task = k }) locks e.journal (record {
         leaves = leaves_none o script s e.journal;
         calm = kept.calm;
@@ -115,26 +118,29 @@ module _ (o : Opening) (script : Script) (e : Engine) (kept : Kept o script e) (
         view = (kept.views s).commits;
         sees = (kept.views s).sees;
         reads = reads;
+        fetched = fetched;
         locked = locked;
         goes = goes;
       }))
 
   -- a lock that was waited for is granted
   pub granted_keeps : (d : ℕ) → (e.sessions s).task ≡ asking d → is_in s sessions ≡ true → (e.locks d ≡ None) ⊎ (e.locks d ≡ Some s)
-      → Kept o script (quiet_event s (record (e.sessions s) { task = fetching d [] }) (granted d s e.locks) e.journal e)
-  granted_keeps d is numbered grant = still_plain (fetching d []) (subst IsPlain (sym is) tt) tt (sym (ap under_way_in is)) (subst (IsAt script e.journal s) is (kept.at s).at) (sym (ap is_reading is))
+      → Kept o script (quiet_event s (record (e.sessions s) { task = fetching d (fetch_begun e.store d) }) (granted d s e.locks) e.journal e)
+  granted_keeps d is numbered grant = still_plain (fetching d (fetch_begun e.store d)) (subst IsPlain (sym is) tt) tt (sym (ap under_way_in is)) (subst (IsAt script e.journal s) is (kept.at s).at) (sym (ap is_reading is))
       (granted d s e.locks)
-      (locks_granted o script e kept s (record (e.sessions s) { task = fetching d [] }) e.journal (leaves_none o script s e.journal) d grant numbered (λ q. refl) (λ q. refl) (λ q. ap (has_lock q) is) (λ q. refl))
-      (granted_goes o script e kept s (record (e.sessions s) { task = fetching d [] }) e.journal (leaves_none o script s e.journal) d grant)
-      (λ q f h. absurd (cc h))
+      (locks_granted o script e kept s (record (e.sessions s) { task = fetching d (fetch_begun e.store d) }) e.journal (leaves_none o script s e.journal) d grant numbered (λ q. refl) (λ q. refl) (λ q. ap (has_lock q) is) (λ q. refl))
+      (granted_goes o script e kept s (record (e.sessions s) { task = fetching d (fetch_begun e.store d) }) e.journal (leaves_none o script s e.journal) d grant)
+      (λ q f h. absurd (cc h)) (λ q f h. (let doc : d ≡ q = cc h in let now : fetch_begun e.store d ≡ f = cc h in subst (IsFetch e.store q) now (subst (λ n. IsFetch e.store n (fetch_begun e.store d)) doc (fetch_begins e.store d))))
 
   -- one more piece of the newest document is read
-  pub fetched_keeps : (d : ℕ) (ps qs : List Part) → (e.sessions s).task ≡ fetching d ps → Kept o script (quiet_event s (record (e.sessions s) { task = fetching d qs }) e.locks e.journal e)
-  fetched_keeps d ps qs is = still_plain (fetching d qs) (subst IsPlain (sym is) tt) tt (sym (ap under_way_in is)) (subst (IsAt script e.journal s) is (kept.at s).at) (sym (ap is_reading is))
+  pub fetched_keeps : (d : ℕ) (f : Flight) → (e.sessions s).task ≡ fetching d f → Kept o script (quiet_event s (record (e.sessions s) { task = fetching d (fetch_event e.store d f) }) e.locks e.journal e)
+  fetched_keeps d f is = still_plain (fetching d (fetch_event e.store d f)) (subst IsPlain (sym is) tt) tt (sym (ap under_way_in is)) (subst (IsAt script e.journal s) is (kept.at s).at) (sym (ap is_reading is))
       e.locks
-      (locks_same o script e kept s (record (e.sessions s) { task = fetching d qs }) e.journal (leaves_none o script s e.journal) (λ q. refl) (λ q. refl) (λ q. sym (ap (has_lock q) is)))
+      (locks_same o script e kept s (record (e.sessions s) { task = fetching d (fetch_event e.store d f) }) e.journal (leaves_none o script s e.journal) (λ q. refl) (λ q. refl) (λ q. sym (ap (has_lock q) is)))
       (λ q. inl refl)
       (λ q f h. absurd (cc h))
+      (λ q g h. (let doc : d ≡ q = cc h in let now : fetch_event e.store d f ≡ g = cc h in
+      subst (IsFetch e.store q) now (subst (λ n. IsFetch e.store n (fetch_event e.store d f)) doc (fetch_goes_on e.store d f kept.consistent (kept.fetched s d f is)))))
 
   -- a session that has no statement left, and a transaction
   pub end_begun_keeps : (e.sessions s).task ≡ idle → answered s e.journal ≡ length (statements s script) → IsSome (e.sessions s).level
@@ -144,7 +150,7 @@ module _ (o : Opening) (script : Script) (e : Engine) (kept : Kept o script e) (
       e.locks
       (locks_same o script e kept s (record (e.sessions s) { task = undoing by_end }) e.journal (leaves_none o script s e.journal) (λ q. refl) (λ q. refl) (λ q. sym (ap (has_lock q) is)))
       (λ q. inl refl)
-      (λ q f h. absurd (cc h))
+      (λ q f h. absurd (cc h)) (λ q ps h. absurd (cc h))
 
   -- a wait is entered
   module _ (d h : ℕ) (is : (e.sessions s).task ≡ asking d) (first : has_waited (part script s e.journal) ≡ false) (other : h ≢ s) (met : is_met o script s d h (holder script d e.journal) e.journal ≡ true) where
@@ -171,6 +177,7 @@ module _ (o : Opening) (script : Script) (e : Engine) (kept : Kept o script e) (
           view = (kept.views s).commits ∙ sym view_now;
           sees = (kept.views s).sees;
           reads = λ q f h. absurd (cc h);
+          fetched = λ q ps h. absurd (cc h);
           locked = locks_same o script e kept s (record (e.sessions s) { task = asking d }) waited (leaves_wait o script s e.journal d h)
               (λ q. ap (has_change script (λ r. not (Rattle.journal_model.specs.Part.is_deadlock r) && not (Rattle.journal_model.specs.Part.is_memory r)) q) (part_wait script s e.journal d h))
               (λ q. ap (λ (p : List Entry). has_change script Rattle.journal_model.specs.Part.is_memory q p && not (has_change script (λ r. not (Rattle.journal_model.specs.Part.is_deadlock r) && not (Rattle.journal_model.specs.Part.is_memory r)) q p)) (part_wait script s e.journal d h))

@@ -17,6 +17,7 @@ use Rattle.kept_model.specs.Quiet.{Turns, IsQuiet}
 use Rattle.kept_model.proofs.FrameLemmas.{says_same, under_way_same}
 use Rattle.kept_model.proofs.SessionLemmas.{self_eq, is_eq, apart_of, not_eq}
 use Rattle.kept_model.proofs.CommitRows.{begun_held}
+use Rattle.kept_model.specs.Fetches.{IsFetched}
 
 -- ---- tasks
 
@@ -175,6 +176,7 @@ pub record IsPlainEvent (o : Opening) (script : Script) (s : ℕ) (x : Session) 
   pub view : option_map (λ (v : ReadView). v.commits) x.view ≡ view_of script s past
   pub sees : (v : ReadView) → x.view ≡ Some v → IsViewIn o e.store v
   pub reads : IsRead o script past e.store s x
+  pub fetched : IsFetched e.store x
   pub locked : (d : ℕ) → AreLocks script past locks (with_session s x e.sessions) d
   pub goes : (q : ℕ) → Goes s (e.locks q) (locks q)
 
@@ -249,6 +251,7 @@ module _ (o : Opening) (script : Script) (e : Engine) (kept : Kept o script e) (
     views = record { commits = p.view; sees = p.sees };
     reads = p.reads;
     making = λ d left r h. absurd (not_making x.task p.becomes d left r h);
+    fetched = p.fetched;
     locked = p.locked;
     turns = turns;
     ahead = λ q ms h. ahead_same q (front e q) refl ms h;

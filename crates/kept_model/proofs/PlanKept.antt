@@ -1,5 +1,5 @@
 -- The planning event of a change keeps all parts, also where the log is begun in it.
-use Rattle.std.proofs.Common.{◌≡◌, ◌≢◌, inl, inr, ℕ, suc, ◌+◌, ◌≤◌, ◌<◌, Bool, true, false, not, ◌&&◌, ◌||◌, nat_eq, nat_lt, List, ◌∷◌, ◌++◌, Option, Some, None, refl, sym, ap, ap₂, subst, ◌∙◌, if◌then◌else◌}
+use Rattle.std.proofs.Common.{◌≡◌, ◌≢◌, inl, inr, ℕ, suc, ◌+◌, ◌≤◌, ◌<◌, Bool, true, false, not, ◌&&◌, ◌||◌, nat_eq, nat_lt, List, ◌∷◌, ◌++◌, Option, Some, None, refl, sym, ap, ap₂, subst, ◌∙◌, if◌then◌else◌, option_map, length}
 use Rattle.std.proofs.lemmas.Bool.{cases_eq}
 use Rattle.journal_model.specs.Documents.{Call, call_doc}
 use Rattle.journal_model.specs.Journal.{Script, call, Reply, Entry, Opening}
@@ -8,7 +8,6 @@ use Rattle.journal_model.specs.Replies.{reply_to}
 use Rattle.journal_model.specs.Held.{greater}
 use Rattle.journal_model.specs.History.{Owner, session, commit, History, one_made, newest_in, history}
 use Rattle.store_data.specs.Store.{Log, Store}
-use Rattle.store_data.specs.Pieces.{Part}
 use Rattle.store_model.specs.History.{Past, content, row_before, is_among, stands, stands_above}
 use Rattle.store_model.specs.History as store
 use Rattle.store_model.specs.Events.{Plan}
@@ -17,7 +16,7 @@ use Rattle.kept_model.specs.Names.{trx_numbered, names, names_of, floor, is_old,
 use Rattle.kept_model.specs.Rows.{bytes_of}
 use Rattle.kept_model.specs.Stored.{Front, whole, begun, front_of, front_by, front, IsStoredBy, known_from, IsStored}
 use Rattle.kept_model.specs.Sessions.{IsAt, under_way_in, IsSession, own_docs, record_docs, records_of, session_records, HasRecords, IsLogged, has_lock, AreLocks}
-use Rattle.kept_model.specs.Views.{AllPast, IsViewIn, IsViewed, IsRead, will_show, IsMakingOf, IsMaking}
+use Rattle.kept_model.specs.Views.{AllPast, IsViewIn, IsViewed, IsRead, will_show, IsMakingOf, IsMaking, completed}
 use Rattle.kept_model.specs.Kept.{AreCounts, AreGiven, Kept}
 use Rattle.kept_model.specs.Plans.{Plans, at_work, plan_event}
 use Rattle.kept_model.specs.Begun.{IsBegun}
@@ -26,6 +25,9 @@ use Rattle.kept_model.proofs.StoredLemmas.{plan_stored}
 use Rattle.kept_model.proofs.PassedLemmas.{any_owner}
 use Rattle.kept_model.proofs.SessionLemmas.{self_eq, is_eq, apart_of, not_eq, by_session}
 use Rattle.kept_model.proofs.CommitRows.{all_past}
+use Rattle.kept_model.specs.Fetches.{IsFetched}
+use Rattle.kept_model.proofs.FetchRows.{fetch_kept, will_measured}
+use Rattle.read_model.specs.Flight.{Flight}
 
 -- the same facts under other words
 pub stored_over : (first first' : ℕ) (script : Script) (past : List Entry) (h : History) (f : Front) (b b' : Bool) (n n' : ℕ) (old old' : ℕ → Bool) (names names' : Owner → Option ℕ) (rows : List Past)
@@ -48,10 +50,11 @@ stored_over first first' script past h f b b' n n' old old' names names' rows is
     })))
 
 module _ (o : Opening) (script : Script) (e : Engine) (s : ℕ) (kept : IsBegun s o script e) (p : Plan) (left : Left) (r : Reply) (next : Store) (plans : Plans p e.store next)
-    (read : List Part) (fetched : (e.sessions s).task ≡ fetching p.doc read) (is : (e.sessions s).trx ≡ Some p.trx)
+    (read : Flight) (fetched : (e.sessions s).task ≡ fetching p.doc read) (is : (e.sessions s).trx ≡ Some p.trx)
     (c : Call) (asked : under_way script s e.journal ≡ Some (call c)) (doc_is : call_doc c ≡ p.doc)
     (replies : r ≡ reply_to c (newest o script s e.journal)) (ok : is_ok_reply r ≡ true)
-    (ends : will_show left next.lobs (row_before next p.doc) ≡ bytes_of (one_made s c (newest_in s (history o script e.journal p.doc))).left) where
+    (ends : will_show left next.lobs (row_before next p.doc) ≡ bytes_of (one_made s c (newest_in s (history o script e.journal p.doc))).left)
+    (measured : (bytes : List ℕ) → will_show left next.lobs (row_before next p.doc) ≡ Some bytes → (row_before next p.doc).lob.length ≡ length bytes) where
   abbrev new : Engine
   new = plan_event s p left r next e
 
@@ -157,7 +160,7 @@ module _ (o : Opening) (script : Script) (e : Engine) (s : ℕ) (kept : IsBegun 
           (over p.doc (begun s) (store.history next p.doc)
           (subst (IsStoredBy (known_from o e.store) script e.journal (history o script e.journal p.doc) (begun s) (is_purging e.store.committed) (suc e.store.purged) (is_old e.store) (names_of e)) (sym plans.begins.own)
           (plan_stored (known_from o e.store) script e.journal e.journal (is_purging e.store.committed) (suc e.store.purged) (is_old e.store) (names_of e) (store.history e.store p.doc) s
-          (history o script e.journal p.doc) (record { trx = p.trx; bytes = content next.lobs (row_before next p.doc) }) c asked is
+          (history o script e.journal p.doc) (record { trx = p.trx; length = (row_before next p.doc).lob.length; bytes = content next.lobs (row_before next p.doc) }) c asked is
           (subst (λ (f : Front). IsStoredBy (known_from o e.store) script e.journal (history o script e.journal p.doc) f (is_purging e.store.committed) (suc e.store.purged) (is_old e.store) (names_of e) (store.history e.store p.doc)) front_was (kept.stored p.doc)))))
 
   -- ---- sessions
@@ -270,14 +273,21 @@ module _ (o : Opening) (script : Script) (e : Engine) (s : ℕ) (kept : IsBegun 
       subst (λ (q : ℕ). IsMakingOf o script e.journal next s q left' r') doc
       (subst (λ (k : Left). IsMakingOf o script e.journal next s p.doc k r') left_is
       (subst (λ (q : Reply). IsMakingOf o script e.journal next s p.doc left q) reply_is
-      (record { change = c; is = asked; doc = doc_is; reply = replies; ok = ok; ends = ends }))))
+      (record { change = c; is = asked; doc = doc_is; reply = replies; ok = ok; measured = measured; ends = ends }))))
       (λ t apart d left' r' h.
       let m = kept.making t d left' r' h in
       let its : e.locks d ≡ Some t = (kept.locks d).taken t (ap (has_lock d) h ∙ self_eq d) in
       let other : d ≢ p.doc = (λ same.
       let one : t ≡ s = cc (sym its ∙ ap e.locks same ∙ held) in
       apart_of t s one apart) in
-      record { change = m.change; is = m.is; doc = m.doc; reply = m.reply; ok = m.ok; ends = plans.others d other left' ∙ m.ends })
+      record { change = m.change; is = m.is; doc = m.doc; reply = m.reply; ok = m.ok; measured = will_measured d e.store next (plans.others d other) left' m.measured; ends = ap (option_map (completed left')) (plans.others d other).parts ∙ m.ends })
+
+  fetched_kept : (t : ℕ) → IsFetched next (new.sessions t)
+  fetched_kept = by_session (λ t y. IsFetched next y) s x' e.sessions (λ d g h. absurd (cc h))
+      (λ t apart d ps h.
+      let its : e.locks d ≡ Some t = (kept.locks d).taken t (ap (has_lock d) h ∙ self_eq d) in
+      let other : d ≢ p.doc = (λ same. apart_of t s (cc (sym its ∙ ap e.locks same ∙ held)) apart) in
+      fetch_kept d e.store next (plans.others d other) ps (kept.fetched t d ps h))
 
   pub begun_planned : Kept o script new
   begun_planned = record {
@@ -294,4 +304,5 @@ module _ (o : Opening) (script : Script) (e : Engine) (s : ℕ) (kept : IsBegun 
     views = views_kept;
     reads = reads_kept;
     making = making_kept;
+    fetched = fetched_kept;
   }

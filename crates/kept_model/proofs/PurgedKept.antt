@@ -29,6 +29,7 @@ use Rattle.kept_model.proofs.SessionLemmas.{session_same, logged_same, holds_sam
 use Rattle.kept_model.proofs.CommitRows.{all_past}
 use Rattle.kept_model.proofs.CommitLegal.{not_due}
 use Rattle.kept_model.proofs.PurgedRows as part
+use Rattle.kept_model.proofs.FetchRows.{fetch_kept}
 
 module _ (o : Opening) (script : Script) (run : IsRun o script) (e : Engine) (kept : Kept o script e) (l : Log) (ls : List Log)
     (first : e.store.committed ≡ l ∷ ls) (begun_is : is_begun l.state ≡ true) (empty : l.records ≡ []) where
@@ -144,8 +145,10 @@ module _ (o : Opening) (script : Script) (run : IsRun o script) (e : Engine) (ke
       doc = m.doc;
       reply = m.reply ∙ ap (Rattle.journal_model.specs.Replies.reply_to m.change) (sym (newest_same t));
       ok = m.ok;
+      measured = m.measured;
       ends = m.ends ∙ ap (λ (now : Option Stored). bytes_of (one_made t m.change now).left) (sym (newest_purged t n (history o script e.journal d)));
     };
+    fetched = λ t d f h. fetch_kept d e.store new.store (record { parts = refl; row = λ is_live. refl }) f (kept.fetched t d f h);
   }
     where
       by_trx : (m : Option ℕ) → Rattle.kept_model.specs.Sessions.session_records new.store m ≡ Rattle.kept_model.specs.Sessions.session_records e.store m

@@ -20,6 +20,7 @@ use Rattle.kept_model.proofs.StoredLemmas.{untouched}
 use Rattle.kept_model.proofs.PassedLemmas.{any_owner}
 use Rattle.kept_model.proofs.FrameLemmas.{under_way_same, own_same}
 use Rattle.kept_model.proofs.SessionLemmas.{by_session, session_same, logged_same, view_same}
+use Rattle.kept_model.specs.Fetches.{IsFetched}
 
 -- a session begins to undo: its change of the document is whole as yet
 turn_stored : (s first : ℕ) (script : Script) (past : List Entry) (h : History) (is_passing : Bool) (next : ℕ) (old : ℕ → Bool) (names : Owner → Option ℕ) (rows : List Past)
@@ -119,6 +120,8 @@ module _ (o : Opening) (script : Script) (e : Engine) (kept : Kept o script e) (
           doc = m.doc;
           reply = m.reply ∙ ap (reply_to m.change) (sym (newest_same t apart));
           ok = m.ok;
+          measured = m.measured;
           ends = m.ends ∙ ap (λ (h : History). bytes_of (one_made t m.change (newest_in t h)).left) (sym (quiet.changes d));
         });
+    fetched = by_session (λ t y. IsFetched e.store y) s x e.sessions quiet.fetched (λ t apart. kept.fetched t);
   }

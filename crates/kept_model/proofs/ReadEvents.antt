@@ -74,7 +74,7 @@ module _ (o : Opening) (script : Script) (run : IsRun o script) (e : Engine) (ke
       (start_plain o script e kept s i free next few (reading d (first_flight v)) tt refl (read_under, deadlock_started o script e kept s i free next few) (λ q. refl)
       (reads_now begun (record (e.sessions s) { task = reading d (first_flight v) }) v refl is refl ((kept.views s).sees v is)
       (view_started o script e kept s i free next few ∙ sym (kept.views s).commits ∙ ap (option_map (λ (w : ReadView). w.commits)) is)
-      (start_stays script s e.journal s i).own_stays refl refl)))
+      (start_stays script s e.journal s i).own_stays refl refl) (λ q ps h. absurd (cc h))))
 
   -- with a view that is taken now
   module _ (none : (e.sessions s).view ≡ None) where
@@ -136,6 +136,7 @@ module _ (o : Opening) (script : Script) (run : IsRun o script) (e : Engine) (ke
       view = sym view_is;
       sees = λ v is. subst (IsViewIn o e.store) (cc is) inside;
       reads = reads_now after x' (view_now e.store) refl refl refl inside view_is leaves.own_same refl refl;
+      fetched = λ q ps h. absurd (cc h);
       locked = locks_same o script e kept s x' after leaves
           (λ q. ap (has_change script (λ r. not (is_deadlock r) && not (is_memory r)) q) part_is)
           (λ q. ap (λ (p : List Entry). has_change script is_memory q p && not (has_change script (λ r. not (is_deadlock r) && not (is_memory r)) q p)) part_is)

@@ -34,6 +34,7 @@ use Rattle.kept_model.proofs.NameLemmas.{floor_made}
 use Rattle.kept_model.proofs.UndoRows.{among_more}
 use Rattle.kept_model.proofs.ReadLemmas.{shown_at, shown_is, view_shows, own_shows}
 use Rattle.kept_model.proofs.PlanKept.{stored_over}
+use Rattle.kept_model.specs.Fetches.{IsFetched}
 
 -- ---- records stand at places of their own
 
@@ -268,4 +269,5 @@ module _ (o : Opening) (script : Script) (e : Engine) (kept : Kept o script e) w
           })))
           (λ t apart. kept.reads t);
       making = by_session (IsMaking o script e.journal e.store) s x' e.sessions (λ q left r h. absurd (cc h)) (λ t apart. kept.making t);
+      fetched = by_session (λ t y. IsFetched e.store y) s x' e.sessions (λ q ps h. absurd (cc h)) (λ t apart. kept.fetched t);
     }

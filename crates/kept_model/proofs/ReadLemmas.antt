@@ -3,7 +3,7 @@ use Rattle.std.proofs.Common.{◌≡◌, ℕ, suc, ◌≤◌, Bool, true, false,
 use Rattle.journal_model.specs.Documents.{look, Kept as Stored}
 use Rattle.journal_model.specs.Journal.{Script, Entry, Opening}
 use Rattle.journal_model.specs.Part.{own, touches, view_of, docs, newest, shown}
-use Rattle.journal_model.specs.History.{Owner, session, commit, Made, is_sessions, is_newest_for, seen_in, history}
+use Rattle.journal_model.specs.History.{Owner, session, commit, Made, is_sessions, is_among, is_newest_for, seen_in, history}
 use Rattle.journal_model.specs.Versions.{is_commits}
 use Rattle.history_model.specs.Laws.{IsRun}
 use Rattle.history_model.specs.Sound.{OfOwners, IsWithin, IsOver, AreOrdered}
@@ -16,13 +16,14 @@ use Rattle.store_model.specs.History.{Past, seen, stands, under}
 use Rattle.store_model.specs.History as store
 use Rattle.kept_model.specs.Engine.{ReadView, is_own, sees_by, Task, idle, making, reading, undoing, Session, Engine}
 use Rattle.kept_model.specs.Names.{names_of, floor, is_old, is_purging}
-use Rattle.kept_model.specs.Rows.{bytes_of, AreNamed, AreKnown}
+use Rattle.kept_model.specs.Rows.{bytes_of, AreNamed, AreKnown, base_behind}
 use Rattle.kept_model.specs.Stored.{Front, whole, begun, undone, front_of, front_by, IsAhead, ArePassed, IsStoredBy, known_from, IsStored, front}
 use Rattle.kept_model.specs.Views.{AllPast, IsViewIn}
 use Rattle.kept_model.specs.Kept.{Kept}
 use Rattle.kept_model.proofs.SessionLemmas.{self_eq, is_eq}
 use Rattle.kept_model.proofs.CommitRows.{begun_held, undone_held, of_parts, of_both, one_owner_is}
-use Rattle.kept_model.proofs.ShownLemmas.{under_is_stored}
+use Rattle.kept_model.proofs.ShownLemmas.{named_seen, most_seen, under_is_stored}
+use Rattle.kept_model.proofs.MeasuredLemmas.{SeenMeasured, measured_alike, measured_front}
 
 seen_past : (f g : ℕ → Bool) (ps : List Past) → AllPast (λ x. f x ≡ g x) ps → seen f ps ≡ seen g ps
 seen_past f g [] all = refl
@@ -108,22 +109,19 @@ module _ (o : Opening) (script : Script) (run : IsRun o script) (e : Engine) (ke
       not_making (reading q f) never h = absurd (cc h)
       not_making (undoing u) never h = absurd (cc h)
 
-  -- no own change: what its view's commits show
-  pub view_shows : touches d (own script s e.journal) ≡ false → seen (sees_by (e.sessions s).trx v) (store.history e.store d) ≡ bytes_of (shown_at o script s d v.commits e.journal)
-  view_shows none =
-      seen_past (sees_by (e.sessions s).trx v) (store.is_among e.store v.commits) (store.history e.store d)
-      (both_past (λ x. is_own (e.sessions s).trx x ≡ false) (λ x. sees_by None v x ≡ store.is_among e.store v.commits x) _ (store.history e.store d)
-      (λ x not_own same. ap (λ (b : Bool). b || sees_by None v x) not_own ∙ same) (off (e.sessions s).trx refl) (inside.rows d))
-      ∙ under_is_stored o script e kept v.commits from run d
-      ∙ ap bytes_of (sym (ap (λ (b : Bool). if b then look (newest o script s e.journal) d else look (docs o script e.journal v.commits) d) none))
+  from : known_from o e.store ≤ v.commits
+  from = by_test (nat_lt o.commits (floor e.store))
     where
-      from : known_from o e.store ≤ v.commits
-      from = by_test (nat_lt o.commits (floor e.store))
-        where
-          by_test : (b : Bool) → (if b then floor e.store else o.commits) ≤ v.commits
-          by_test true = inside.low
-          by_test false = inside.first
+      by_test : (b : Bool) → (if b then floor e.store else o.commits) ≤ v.commits
+      by_test true = inside.low
+      by_test false = inside.first
 
+  -- no own change: it sees of these rows what its view's commits have
+  pub rows_alike : touches d (own script s e.journal) ≡ false → AllPast (λ x. sees_by (e.sessions s).trx v x ≡ store.is_among e.store v.commits x) (store.history e.store d)
+  rows_alike none =
+      both_past (λ x. is_own (e.sessions s).trx x ≡ false) (λ x. sees_by None v x ≡ store.is_among e.store v.commits x) _ (store.history e.store d)
+      (λ x not_own same. ap (λ (b : Bool). b || sees_by None v x) not_own ∙ same) (off (e.sessions s).trx refl) (inside.rows d)
+    where
       st : IsStored o script e d
       st = kept.stored d
 
@@ -167,10 +165,25 @@ module _ (o : Opening) (script : Script) (run : IsRun o script) (e : Engine) (ke
               not_active true false h g = true≢false (sym h)
               not_active false b h g = true≢false (sym g)
 
+  pub view_shows : touches d (own script s e.journal) ≡ false → seen (sees_by (e.sessions s).trx v) (store.history e.store d) ≡ bytes_of (shown_at o script s d v.commits e.journal)
+  view_shows none =
+      seen_past (sees_by (e.sessions s).trx v) (store.is_among e.store v.commits) (store.history e.store d) (rows_alike none)
+      ∙ under_is_stored o script e kept v.commits from run d
+      ∙ ap bytes_of (sym (ap (λ (b : Bool). if b then look (newest o script s e.journal) d else look (docs o script e.journal v.commits) d) none))
+
+  pub view_measured : touches d (own script s e.journal) ≡ false → SeenMeasured (sees_by (e.sessions s).trx v) (store.history e.store d)
+  view_measured none =
+      let st = kept.stored d in
+      measured_alike (sees_by (e.sessions s).trx v) (store.is_among e.store v.commits) (store.history e.store d) (rows_alike none)
+      (measured_front (names_of e) (is_old e.store) (known_from o e.store) (store.is_among e.store v.commits) (is_among v.commits) (base_behind st.passed (history o script e.journal d).base)
+      (named_seen o script e kept v.commits from) (most_seen o script e kept v.commits from) (λ t. refl) script e.journal (history o script e.journal d)
+      (front e d) st.ahead st.left (store.history e.store d) st.is_ahead st.named st.known)
+
   -- an own change: the newest row is the session's
-  pub own_shows : e.locks d ≡ Some s → touches d (own script s e.journal) ≡ true
-      → seen (sees_by (e.sessions s).trx v) (store.history e.store d) ≡ bytes_of (shown_at o script s d v.commits e.journal)
-  own_shows held there = by_left k.left refl
+  own_top : e.locks d ≡ Some s → touches d (own script s e.journal) ≡ true
+      → (seen (sees_by (e.sessions s).trx v) (store.history e.store d) ≡ bytes_of (shown_at o script s d v.commits e.journal))
+      × SeenMeasured (sees_by (e.sessions s).trx v) (store.history e.store d)
+  own_top held there = by_left k.left refl
     where
       st : IsStored o script e d
       st = kept.stored d
@@ -207,26 +220,37 @@ module _ (o : Opening) (script : Script) (run : IsRun o script) (e : Engine) (ke
       alone t h = one_owner o script e.journal run.numbered kept.calm.legal d t s (sym (owned_of o script e.journal run.numbered kept.calm.legal d t) ∙ h) there
 
       by_rows : (m : Made) (ms : List Made) (ps : List Past) → k.left ≡ m ∷ ms → AreNamed (names_of e) (is_old e.store) (m ∷ ms) ps → AreKnown (known_from o e.store) (Rattle.kept_model.specs.Rows.base_behind k.passed (history o script e.journal d).base) (m ∷ ms) ps
-          → seen (sees_by (e.sessions s).trx v) ps ≡ bytes_of (shown_at o script s d v.commits e.journal)
+          → (seen (sees_by (e.sessions s).trx v) ps ≡ bytes_of (shown_at o script s d v.commits e.journal)) × SeenMeasured (sees_by (e.sessions s).trx v) ps
       by_rows m ms [] left_is named known = absurd named
       by_rows m ms (p ∷ ps) left_is named known =
           let changes_are : (history o script e.journal d).changes ≡ m ∷ (ms ++ k.passed) = split ∙ ap (λ (l : List Made). l ++ k.passed) left_is in
           let top : m.owner ≡ session s = top_is s m (ms ++ k.passed) (subst AreOrdered changes_are (ordered_of o script run e.journal d kept.calm.legal))
           (sym (ap (has s) changes_are) ∙ has_own) (λ t h. alone t (ap (has t) changes_are ∙ h)) in
           let mine : (e.sessions s).trx ≡ Some p.trx = sym (ap (names_of e) top) ∙ named.0 in
-          ap (λ (b : Bool). if b then p.bytes else seen (sees_by (e.sessions s).trx v) ps)
-          (ap (λ (m : Option ℕ). is_own m p.trx || sees_by None v p.trx) mine ∙ ap (λ (b : Bool). b || sees_by None v p.trx) (self_eq p.trx))
-          ∙ known.0
-          ∙ ap bytes_of (sym (
-          ap (λ (b : Bool). if b then look (newest o script s e.journal) d else look (docs o script e.journal v.commits) d) there
-          ∙ reads_own o script e.journal run kept.calm.legal s d
-          ∙ ap (λ (l : List Made). seen_in (is_newest_for s) l (history o script e.journal d).base) changes_are
-          ∙ ap (λ (b : Bool). if b then m.left else seen_in (is_newest_for s) (ms ++ k.passed) (history o script e.journal d).base) (ap (is_newest_for s) top ∙ self_eq s)))
+          let seen_own : sees_by (e.sessions s).trx v p.trx ≡ true =
+          ap (λ (m : Option ℕ). is_own m p.trx || sees_by None v p.trx) mine ∙ ap (λ (b : Bool). b || sees_by None v p.trx) (self_eq p.trx) in (
+            ap (λ (b : Bool). if b then p.bytes else seen (sees_by (e.sessions s).trx v) ps) seen_own
+                ∙ known.0.0
+                ∙ ap bytes_of (sym (
+                ap (λ (b : Bool). if b then look (newest o script s e.journal) d else look (docs o script e.journal v.commits) d) there
+                ∙ reads_own o script e.journal run kept.calm.legal s d
+                ∙ ap (λ (l : List Made). seen_in (is_newest_for s) l (history o script e.journal d).base) changes_are
+                ∙ ap (λ (b : Bool). if b then m.left else seen_in (is_newest_for s) (ms ++ k.passed) (history o script e.journal d).base) (ap (is_newest_for s) top ∙ self_eq s))),
+            ((λ is. known.0.1), λ unseen. absurd (true≢false (sym seen_own ∙ unseen))),
+          )
 
-      by_left : (left : List Made) → k.left ≡ left → seen (sees_by (e.sessions s).trx v) (store.history e.store d) ≡ bytes_of (shown_at o script s d v.commits e.journal)
+      by_left : (left : List Made) → k.left ≡ left
+          → (seen (sees_by (e.sessions s).trx v) (store.history e.store d) ≡ bytes_of (shown_at o script s d v.commits e.journal)) × SeenMeasured (sees_by (e.sessions s).trx v) (store.history e.store d)
       by_left [] left_is = absurd (true≢false (sym has_own ∙ ap (has s) (split ∙ ap (λ (l : List Made). l ++ k.passed) left_is) ∙ passed_none s (is_purging e.store.committed) (suc e.store.purged) k.passed k.are_passed))
       by_left (m ∷ ms) left_is = by_rows m ms (store.history e.store d) left_is
           (subst (λ (l : List Made). AreNamed (names_of e) (is_old e.store) l (store.history e.store d)) left_is
           (subst (λ (a : List Made). AreNamed (names_of e) (is_old e.store) (a ++ k.left) (store.history e.store d)) k.is_ahead k.named))
           (subst (λ (l : List Made). AreKnown (known_from o e.store) (Rattle.kept_model.specs.Rows.base_behind k.passed (history o script e.journal d).base) l (store.history e.store d)) left_is
           (subst (λ (a : List Made). AreKnown (known_from o e.store) (Rattle.kept_model.specs.Rows.base_behind k.passed (history o script e.journal d).base) (a ++ k.left) (store.history e.store d)) k.is_ahead k.known))
+
+  pub own_shows : e.locks d ≡ Some s → touches d (own script s e.journal) ≡ true
+      → seen (sees_by (e.sessions s).trx v) (store.history e.store d) ≡ bytes_of (shown_at o script s d v.commits e.journal)
+  own_shows held there = (own_top held there).0
+
+  pub own_measured : e.locks d ≡ Some s → touches d (own script s e.journal) ≡ true → SeenMeasured (sees_by (e.sessions s).trx v) (store.history e.store d)
+  own_measured held there = (own_top held there).1

@@ -74,7 +74,7 @@ greater_first a b k le = by_test (nat_lt a b) refl le
     by_test false e h = (h, (let less : b ≤ a = grind (arith, e) in omega (arith, less, h)))
 
 module _ (o : Opening) (script : Script) (e : Engine) (kept : Kept o script e) (k : ℕ) (from : known_from o e.store ≤ k) where
-  named_seen : (w : Owner) (x : ℕ) → names_of e w ≡ Some x → store.is_among e.store k x ≡ is_among k w
+  pub named_seen : (w : Owner) (x : ℕ) → names_of e w ≡ Some x → store.is_among e.store k x ≡ is_among k w
   named_seen (session t) x has = ap (λ (b : Bool). not b && not (stands_above k x e.store.committed)) (kept.logs.own t x has).0
   named_seen (commit c) x has =
       let l = kept.logs.commits c x has in
@@ -99,7 +99,7 @@ module _ (o : Opening) (script : Script) (e : Engine) (kept : Kept o script e) (
       by_test true g = g
       by_test false g = absurd (true≢false (sym g))
 
-  most_seen : (w : Owner) → is_among (known_from o e.store) w ≡ true → is_among k w ≡ true
+  pub most_seen : (w : Owner) → is_among (known_from o e.store) w ≡ true → is_among k w ≡ true
   most_seen (session t) h = h
   most_seen (commit c) h = let low : nat_le c (known_from o e.store) ≡ true = h in let up : nat_le c k ≡ true = grind (arith, low, from) in up
 

@@ -18,6 +18,8 @@ use Rattle.kept_model.proofs.FrameLemmas.{says_same, under_way_same}
 use Rattle.kept_model.proofs.SessionLemmas.{self_eq, is_eq, apart_of, not_eq, by_session, holds_same, may_hold_same}
 use Rattle.kept_model.proofs.CommitLegal.{unanswered_started, start_allowed}
 use Rattle.kept_model.proofs.CommitRows.{begun_held}
+use Rattle.kept_model.specs.Fetches.{IsFetch, fetch_begun}
+use Rattle.kept_model.proofs.FetchRows.{fetch_begins}
 
 module _ (o : Opening) (script : Script) (e : Engine) (kept : Kept o script e) (s i : ℕ) (c : Call) (free : (e.sessions s).task ≡ idle) (statement_is : statement script s i ≡ Some (call c))
     (next : i ≡ answered s e.journal + 1) (few : i ≤ length (statements s script)) (numbered : is_in s sessions ≡ true)
@@ -29,7 +31,7 @@ module _ (o : Opening) (script : Script) (e : Engine) (kept : Kept o script e) (
   past' = Start s i ∷ e.journal
 
   abbrev x' : Session
-  x' = record (e.sessions s) { task = fetching d [] }
+  x' = record (e.sessions s) { task = fetching d (fetch_begun e.store d) }
 
   same_count : started s e.journal ≡ answered s e.journal
   same_count = (kept.at s).count ∙ ap (λ (k : Task). answered s e.journal + under_way_in k) free ∙ plus_none (answered s e.journal)
@@ -155,13 +157,14 @@ module _ (o : Opening) (script : Script) (e : Engine) (kept : Kept o script e) (
       since = λ still. ap view_since_start part_is;
     };
     logged = record {
-      records = subst (λ (ds : List ℕ). HasRecords (fetching d []) ds (record_docs (session_records e.store (e.sessions s).trx))) (sym own_now)
+      records = subst (λ (ds : List ℕ). HasRecords (fetching d (fetch_begun e.store d)) ds (record_docs (session_records e.store (e.sessions s).trx))) (sym own_now)
           (subst (λ (k : Task). HasRecords k (own_docs script s e.journal) (record_docs (session_records e.store (e.sessions s).trx))) free (kept.logged s).records);
       some = (kept.logged s).some;
     };
     views = record { commits = (kept.views s).commits ∙ sym view_now; sees = (kept.views s).sees };
     reads = λ q f h. absurd (cc h);
     making = λ q left r h. absurd (cc h);
+    fetched = λ q f h. (let doc : d ≡ q = cc h in let now : fetch_begun e.store d ≡ f = cc h in subst (IsFetch e.store q) now (subst (λ n. IsFetch e.store n (fetch_begun e.store d)) doc (fetch_begins e.store d)));
     locked = locked;
     turns = λ q. inl (front_same q);
     ahead = λ q ms h. ahead_same q (front e q) refl ms h;

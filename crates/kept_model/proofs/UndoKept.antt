@@ -1,5 +1,5 @@
 -- The last event of an undone record, whose log has more, keeps all parts: sessions, views, reads.
-use Rattle.std.proofs.Common.{◌≡◌, ◌≢◌, inl, inr, ℕ, ◌+◌, ◌≤◌, Bool, true, false, true≢false, ◌&&◌, ◌||◌, nat_eq, nat_lt, List, [], ◌∷◌, ◌++◌, Option, Some, None, refl, sym, ap, ap₂, subst, ◌∙◌}
+use Rattle.std.proofs.Common.{◌≡◌, ◌≢◌, inl, inr, ℕ, ◌+◌, ◌≤◌, Bool, true, false, true≢false, ◌&&◌, ◌||◌, nat_eq, nat_lt, List, [], ◌∷◌, ◌++◌, Option, Some, None, refl, sym, ap, ap₂, subst, ◌∙◌, option_map}
 use Rattle.std.proofs.lemmas.Bool.{cases_eq}
 use Rattle.page_model.specs.Pages.{Address}
 use Rattle.journal_model.specs.Journal.{Script, Undoer, Opening}
@@ -15,14 +15,16 @@ use Rattle.read_model.specs.OfStore.{document}
 use Rattle.kept_model.specs.Rows.{AreNamed}
 use Rattle.kept_model.specs.Stored.{IsStored}
 use Rattle.kept_model.specs.Sessions.{IsSession, own_docs, record_docs, records_of, session_records, HasRecords, IsLogged, has_lock, AreLocks}
-use Rattle.kept_model.specs.Views.{AllPast, IsViewIn, IsViewed, IsRead, IsMaking}
+use Rattle.kept_model.specs.Views.{AllPast, IsViewIn, IsViewed, IsRead, IsMaking, completed}
 use Rattle.kept_model.specs.Kept.{AreCounts, AreGiven, Kept}
 use Rattle.kept_model.specs.Undoes.{handed_task, Undoes, undo_event}
 use Rattle.kept_model.proofs.SessionLemmas.{self_eq, is_eq}
 use Rattle.kept_model.proofs.CommitRows.{all_past}
 use Rattle.kept_model.proofs.UndoRows as part
-use Rattle.kept_model.proofs.UndoRows.{handed_count, handed_at, handed_reading, handed_records, handed_lock, was_reading, was_making}
+use Rattle.kept_model.proofs.UndoRows.{handed_count, handed_at, handed_reading, handed_records, handed_lock, was_reading, was_making, was_fetching}
 use Rattle.kept_model.proofs.UndoRows.{HasTwo, among_more, second_old}
+use Rattle.kept_model.specs.Fetches.{IsFetched, IsFetch}
+use Rattle.kept_model.proofs.FetchRows.{fetch_kept, fetch_handed, will_measured}
 
 module _ (o : Opening) (script : Script) (e : Engine) (kept : Kept o script e) (s trx : ℕ) (place : Address) (u : Record) (next : Store) (undoes : Undoes trx place u e.store next)
     (v : Undoer) (task_is : (e.sessions s).task ≡ undoing v) (is : (e.sessions s).trx ≡ Some trx)
@@ -192,7 +194,17 @@ module _ (o : Opening) (script : Script) (e : Engine) (kept : Kept o script e) (
       let other : d ≢ u.doc = (λ same.
       let one : t ≡ s = cc (sym its ∙ ap e.locks same ∙ held) in
       absurd (cc (sym was ∙ ap (λ (q : ℕ). (e.sessions q).task) one ∙ task_is))) in
-      record { change = m.change; is = m.is; doc = m.doc; reply = m.reply; ok = m.ok; ends = undoes.elsewhere d other left ∙ m.ends }
+      record { change = m.change; is = m.is; doc = m.doc; reply = m.reply; ok = m.ok; measured = will_measured d e.store next (undoes.elsewhere d other) left m.measured; ends = ap (option_map (completed left)) (undoes.elsewhere d other).parts ∙ m.ends }
+
+  fetched_kept : (t : ℕ) → IsFetched next (new.sessions t)
+  fetched_kept t d ps h =
+      let prior = was_fetching u.doc place u (e.sessions t).task d ps h in
+      let was = prior.is in
+      let its : e.locks d ≡ Some t = (kept.locks d).taken t (ap (has_lock d) was ∙ self_eq d) in
+      let other : d ≢ u.doc = (λ same.
+      let one : t ≡ s = cc (sym its ∙ ap e.locks same ∙ held) in
+      absurd (cc (sym was ∙ ap (λ (q : ℕ). (e.sessions q).task) one ∙ task_is))) in
+      subst (IsFetch next d) (sym prior.now) (fetch_handed next u.doc place u d prior.before other (fetch_kept d e.store next (undoes.elsewhere d other) prior.before (kept.fetched t d prior.before was)))
 
   pub undo_keeps : Kept o script new
   undo_keeps = record {
@@ -209,4 +221,5 @@ module _ (o : Opening) (script : Script) (e : Engine) (kept : Kept o script e) (
     views = views_kept;
     reads = reads_kept;
     making = making_kept;
+    fetched = fetched_kept;
   }

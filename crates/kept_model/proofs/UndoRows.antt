@@ -16,7 +16,7 @@ use Rattle.store_model.proofs.LogLemmas.{change}
 use Rattle.store_model.proofs.UndoLemmas.{changes-popped}
 use Rattle.kept_model.specs.Engine.{Left, Task, idle, asking, fetching, making, reading, undoing, Engine}
 use Rattle.kept_model.specs.Names.{trx_numbered, names, names_of, floor, is_old, is_purging, AreNumbered, IsFirstBegun, AreLogs}
-use Rattle.read_model.specs.Flight.{IsFlight}
+use Rattle.read_model.specs.Flight.{IsFlight, Flight}
 use Rattle.kept_model.specs.Rows.{AreNamed}
 use Rattle.kept_model.specs.Stored.{Front, undone, front_of, front_by, front, IsStoredBy, known_from, IsStored}
 use Rattle.kept_model.specs.Sessions.{IsAt, under_way_in, IsSession, own_docs, record_docs, records_of, session_records, HasRecords, IsLogged, has_lock, AreLocks}
@@ -79,6 +79,11 @@ among_more store k m x le h = by_active (stands x store.active) h
     by_active false g = ap not (fewer store.committed (none_of (stands_above k x store.committed) g))
 
 -- ---- tasks
+
+pub record WasFetching (turn : ℕ → Flight → Flight) (k : Task) (d : ℕ) (f : Flight) : Type 0 where
+  pub before : Flight
+  pub is : k ≡ fetching d before
+  pub now : f ≡ turn d before
 
 module _ (doc : ℕ) (a : Address) (u : Record) where
   pub handed_count : (k : Task) → under_way_in (handed_task doc a u k) ≡ under_way_in k
@@ -152,6 +157,18 @@ module _ (doc : ℕ) (a : Address) (u : Record) where
   was_making (reading e g) d left r h = absurd (cc h)
   was_making (undoing v) d left r h = absurd (cc h)
 
+  pub was_fetching : (k : Task) (d : ℕ) (f : Flight) → handed_task doc a u k ≡ fetching d f → WasFetching (handed_flight doc a u) k d f
+  was_fetching idle d f h = absurd (cc h)
+  was_fetching (asking e) d f h = absurd (cc h)
+  was_fetching (fetching e g) d f h = let same : e ≡ d = cc h in record {
+    before = g;
+    is = ap (λ n. fetching n g) same;
+    now = (let now : handed_flight doc a u e g ≡ f = cc h in sym now ∙ ap (λ n. handed_flight doc a u n g) same);
+  }
+  was_fetching (making e g q) d f h = absurd (cc h)
+  was_fetching (reading e g) d f h = absurd (cc h)
+  was_fetching (undoing v) d f h = absurd (cc h)
+
 module _ (o : Opening) (script : Script) (e : Engine) (kept : Kept o script e) (s trx : ℕ) (place : Address) (u : Record) (next : Store) (undoes : Undoes trx place u e.store next)
     (v : Undoer) (task_is : (e.sessions s).task ≡ undoing v) (is : (e.sessions s).trx ≡ Some trx)
     (newest : IsNewest trx place u e.store) (held : e.locks u.doc ≡ Some s) where
@@ -209,11 +226,11 @@ module _ (o : Opening) (script : Script) (e : Engine) (kept : Kept o script e) (
   first_trx = two.trx ∙ (subst (IsChain (row_before e.store u.doc)) (changes-popped trx place u e.store newest) (kept.consistent.well.chains u.doc)).0.trx
 
   -- the rest of the rows, or an absent row
-  pub all_new : (P : List Past → Type 0) → P (two.second ∷ two.rest) → (two.rest ≡ [] → two.second.bytes ≡ None → P (record { trx = 0; bytes = None } ∷ [])) → P (store.history next u.doc)
+  pub all_new : (P : List Past → Type 0) → P (two.second ∷ two.rest) → (two.rest ≡ [] → two.second.bytes ≡ None → P (record { trx = 0; length = 0; bytes = None } ∷ [])) → P (store.history next u.doc)
   all_new P here gone = elim undoes.restores [
     | inl same ↦ subst P (sym (same ∙ ap all_but_first two.is)) here
     | inr none ↦
-        let front : two.second ∷ two.rest ≡ record { trx = u.before.trx; bytes = None } ∷ [] = sym (ap all_but_first two.is) ∙ none.1 in
+        let front : two.second ∷ two.rest ≡ record { trx = u.before.trx; length = u.before.lob.length; bytes = None } ∷ [] = sym (ap all_but_first two.is) ∙ none.1 in
         subst P (sym none.0) (gone (cc front) (bytes_of_first front))
   ]
     where
@@ -251,7 +268,7 @@ module _ (o : Opening) (script : Script) (e : Engine) (kept : Kept o script e) (
       (subst (λ (f : Front). IsStoredBy (known_from o e.store) script e.journal (history o script e.journal u.doc) f (is_purging e.store.committed) (suc e.store.purged) (is_old e.store) (names_of e) (store.history e.store u.doc)) front_is (kept.stored u.doc)) in
       all_new IsBy stepped (λ none nothing.
       row_gone (known_from o e.store) script e.journal e.journal (is_purging e.store.committed) (suc e.store.purged) (is_old e.store) (names_of e) (two.second ∷ []) s
-      (history o script e.journal u.doc) two.second (record { trx = 0; bytes = None }) refl nothing refl kept.zero
+      (history o script e.journal u.doc) two.second (record { trx = 0; length = 0; bytes = None }) refl nothing refl kept.zero
       (subst (λ (qs : List Past). IsBy (two.second ∷ qs)) none stepped))
 
   pub stored_kept : (d : ℕ) → IsStored o script new d

@@ -20,6 +20,7 @@ use Rattle.kept_model.proofs.SessionLemmas.{self_eq, apart_of, not_eq, by_sessio
 use Rattle.kept_model.proofs.SeenLemmas.{reply_same}
 use Rattle.kept_model.proofs.CommitLegal.{if_some, not_due}
 use Rattle.kept_model.proofs.UndoneRows as part
+use Rattle.kept_model.specs.Fetches.{IsFetched}
 
 module _ (o : Opening) (script : Script) (run : IsRun o script) (e : Engine) (kept : Kept o script e) (s : ℕ) (v : Undoer) (past' : List Entry)
     (task_is : (e.sessions s).task ≡ undoing v) (gone : (e.sessions s).trx ≡ None) (ending : IsEnding o script s e.journal past') where
@@ -115,8 +116,10 @@ module _ (o : Opening) (script : Script) (run : IsRun o script) (e : Engine) (ke
           reply = m.reply ∙ sym (reply_same m.change (newest o script t e.journal) (newest o script t past')
               (subst (λ (q : ℕ). look (newest o script t past') q ≡ look (newest o script t e.journal) q) (sym m.doc) (newest_same t d free)));
           ok = m.ok;
+          measured = m.measured;
           ends = m.ends ∙ ap (λ (hh : History). bytes_of (one_made t m.change (newest_in t hh)).left) (sym (history_same d free));
         });
+    fetched = by_session (λ t y. IsFetched e.store y) s resting e.sessions (λ q ps h. absurd (cc h)) (λ t apart. kept.fetched t);
   }
 
 -- ---- the entries

@@ -1,5 +1,5 @@
 -- The further events of a change keep all parts.
-use Rattle.std.proofs.Common.{◌≡◌, ◌≢◌, inl, inr, ℕ, suc, ◌+◌, ◌<◌, Bool, true, false, ◌||◌, nat_eq, List, [], ◌∷◌, Option, Some, None, refl, sym, ap, ap₂, subst, ◌∙◌, if◌then◌else◌}
+use Rattle.std.proofs.Common.{◌≡◌, ◌≢◌, inl, inr, ℕ, suc, ◌+◌, ◌<◌, Bool, true, false, ◌||◌, nat_eq, List, [], ◌∷◌, Option, Some, None, refl, sym, ap, ap₂, subst, ◌∙◌, if◌then◌else◌, option_map}
 use Rattle.std.proofs.lemmas.Bool.{cases_eq}
 use Rattle.journal_model.specs.Journal.{Script, Reply, Opening}
 use Rattle.journal_model.specs.History.{Owner, session, commit, one_made, newest_in, history}
@@ -12,7 +12,7 @@ use Rattle.kept_model.specs.Names.{names_of, is_old, is_purging}
 use Rattle.kept_model.specs.Rows.{bytes_of}
 use Rattle.kept_model.specs.Stored.{Front, whole, begun, front_of, front_by, front, IsStoredBy, known_from, IsStored}
 use Rattle.kept_model.specs.Sessions.{IsAt, under_way_in, is_reading, IsSession, own_docs, record_docs, session_records, HasRecords, IsLogged, has_lock}
-use Rattle.kept_model.specs.Views.{AllPast, IsViewIn, IsViewed, IsRead, will_show, IsMakingOf, IsMaking}
+use Rattle.kept_model.specs.Views.{AllPast, IsViewIn, IsViewed, IsRead, will_show, IsMakingOf, IsMaking, completed}
 use Rattle.kept_model.specs.Kept.{Kept}
 use Rattle.kept_model.specs.Plans.{at_work}
 use Rattle.kept_model.specs.Works.{Works, work_event}
@@ -20,6 +20,8 @@ use Rattle.kept_model.proofs.StoredLemmas.{half_stored}
 use Rattle.kept_model.proofs.PlanKept.{stored_over}
 use Rattle.kept_model.proofs.AnswerRows.{rows_front}
 use Rattle.kept_model.proofs.SessionLemmas.{self_eq, is_eq, apart_of, by_session}
+use Rattle.kept_model.specs.Fetches.{IsFetched}
+use Rattle.kept_model.proofs.FetchRows.{fetch_kept, will_measured}
 
 -- another newest row of the same transaction leaves what holds of all rows' transactions
 pub front_past : (P : ℕ → Type 0) (p q : Past) (ps qs : List Past) → q.trx ≡ p.trx → qs ≡ ps → AllPast P (p ∷ ps) → AllPast P (q ∷ qs)
@@ -59,10 +61,10 @@ module _ (o : Opening) (script : Script) (e : Engine) (kept : Kept o script e) (
 
   -- the document's rows before and behind: the newest is another, of the same transaction
   abbrev old_front : Past
-  old_front = record { trx = (row_before e.store d).trx; bytes = content_behind [] e.store.lobs (row_before e.store d) }
+  old_front = record { trx = (row_before e.store d).trx; length = (row_before e.store d).lob.length; bytes = content_behind [] e.store.lobs (row_before e.store d) }
 
   abbrev new_front : Past
-  new_front = record { trx = (row_before e.store d).trx; bytes = content_behind [] (f e.store.lobs) (row_before e.store d) }
+  new_front = record { trx = (row_before e.store d).trx; length = (row_before e.store d).lob.length; bytes = content_behind [] (f e.store.lobs) (row_before e.store d) }
 
   old_rows : (ps : List Past) × (store.history e.store d ≡ old_front ∷ ps)
   old_rows = rows_front [] e.store.lobs (row_before e.store d) (changes e.store d)
@@ -176,12 +178,17 @@ module _ (o : Opening) (script : Script) (e : Engine) (kept : Kept o script e) (
         subst (λ (n : ℕ). IsMakingOf o script e.journal new.store s n left'' r'') doc
         (subst (λ (k : Left). IsMakingOf o script e.journal new.store s d k r'') left_is
         (subst (λ (k : Reply). IsMakingOf o script e.journal new.store s d left' k) reply_is
-        (record { change = m.change; is = m.is; doc = m.doc; reply = m.reply; ok = m.ok; ends = ends }))))
+        (record { change = m.change; is = m.is; doc = m.doc; reply = m.reply; ok = m.ok; measured = λ bs shown. m.measured bs (m.ends ∙ sym ends ∙ shown); ends = ends }))))
         (λ t apart q left'' r'' h.
         let m = kept.making t q left'' r'' h in
         let its : e.locks q ≡ Some t = (kept.locks q).taken t (ap (has_lock q) h ∙ self_eq q) in
         let other : q ≢ d = (λ same. apart_of t s (cc (sym its ∙ ap e.locks same ∙ held)) apart) in
-        record { change = m.change; is = m.is; doc = m.doc; reply = m.reply; ok = m.ok; ends = works.elsewhere q other left'' ∙ m.ends });
+        record { change = m.change; is = m.is; doc = m.doc; reply = m.reply; ok = m.ok; measured = will_measured q e.store new.store (works.elsewhere q other) left'' m.measured; ends = ap (option_map (completed left'')) (works.elsewhere q other).parts ∙ m.ends });
+    fetched = by_session (λ t y. IsFetched new.store y) s x' e.sessions (λ q g h. absurd (cc h))
+        (λ t apart q ps h.
+        let its : e.locks q ≡ Some t = (kept.locks q).taken t (ap (has_lock q) h ∙ self_eq q) in
+        let other : q ≢ d = (λ same. apart_of t s (cc (sym its ∙ ap e.locks same ∙ held)) apart) in
+        fetch_kept q e.store new.store (works.elsewhere q other) ps (kept.fetched t q ps h));
   }
     where
       same_records : (m : Option ℕ) → session_records new.store m ≡ session_records e.store m

@@ -25,8 +25,9 @@ use Rattle.read_model.proofs.EventLemmas.{kept_where_touched}
 use Rattle.read_model.proofs.StoreLobLemmas.{add_touches, push_touches}
 use Rattle.read_model.proofs.StoreLemmas.{seen_elsewhere, before_elsewhere, before_older}
 use Rattle.kept_model.specs.Works.{Works}
-use Rattle.kept_model.proofs.OwnLemmas.{owned_there, version_there}
-use Rattle.kept_model.proofs.KindLemmas.{will_same}
+use Rattle.store_model.proofs.ThereLemmas.{lob_is_owned}
+use Rattle.kept_model.proofs.OwnLemmas.{version_there}
+use Rattle.kept_model.proofs.KindLemmas.{shown_same}
 
 module _ (store : Store) (trx d : ℕ) (c : Change) (cs : List Change) (all : IsConsistent store) (e : changes store d ≡ c ∷ cs) (mine : c.trx ≡ trx) where
   pub row_trx : (row_before store d).trx ≡ trx
@@ -51,14 +52,17 @@ module _ (store : Store) (trx d : ℕ) (c : Change) (cs : List Change) (all : Is
       let live_row = made_live store d page c cs all.well e makes in
       let apart : (q : ℕ) → q ≢ d → AllRows (IsElsewhere page) store q = λ q other. others_elsewhere store d q page all.well (λ g. other (sym g)) live_row.0 live_row.1 in
       record {
-        consistent = add_consistent page m store all there (owned_there store page m all there) piece taken free up different unowned;
+        consistent = add_consistent page m store all there (lob_is_owned store page m all there) piece taken free up different unowned;
         older = piece_older store d c cs all.well e page makes piece index free;
         others = λ q other. piece_others store d c cs all.well e page makes piece index free q (λ g. other (sym g));
         reads = by_touch (on_lob page (λ l. with_nodes index free (with_piece piece l)))
             (λ sees unseen. add_touches sees store d page piece index free (before_elsewhere sees store d page unseen (made_elsewhere store d page c cs all.well e makes)))
             (λ sees q other. add_touches sees store q page piece index free (seen_elsewhere sees store q page (apart q other)));
-        elsewhere = λ q other left. will_same left store.lobs (on_lob page (λ l. with_nodes index free (with_piece piece l)) store.lobs) (row_before store q)
-            (same_elsewhere page (λ l. with_nodes index free (with_piece piece l)) store.lobs (λ l. refl) (row_before store q) (apart q other).0);
+        elsewhere = λ q other. record {
+          parts = shown_same store.lobs (on_lob page (λ l. with_nodes index free (with_piece piece l)) store.lobs) (row_before store q)
+              (same_elsewhere page (λ l. with_nodes index free (with_piece piece l)) store.lobs (λ l. refl) (row_before store q) (apart q other).0);
+          row = λ is_live. refl;
+        };
       }
 
   -- a version is pushed into the LOB that the change has raised
@@ -72,7 +76,7 @@ module _ (store : Store) (trx d : ℕ) (c : Change) (cs : List Change) (all : Is
       let apart : (q : ℕ) → q ≢ d → AllRows (IsElsewhere page) store q =
       λ q other. others_elsewhere store d q page all.well (λ g. other (sym g)) (version_live store d c cs all.well e versioned) refl in
       record {
-        consistent = push_consistent page m store all there (owned_there store page m all there) k p node v taken free kth
+        consistent = push_consistent page m store all there (lob_is_owned store page m all there) k p node v taken free kth
             (let same = version_there store d m all (version_live store d c cs all.well e versioned) there in omega (arith, number, same)) different unowned;
         older = push_older store d c cs all.well e versioned k node v index free number;
         others = λ q other. push_others store d c cs all.well e versioned k node v index free q (λ g. other (sym g));
@@ -80,6 +84,9 @@ module _ (store : Store) (trx d : ℕ) (c : Change) (cs : List Change) (all : Is
             (λ sees unseen. push_touches sees store d page k node v index free (before_older sees store d page v.number unseen
             (subst (λ (n : ℕ). Rattle.store_model.specs.Behind.AllBefore (Rattle.store_model.specs.Behind.IsBelow page n) (changes store d)) (sym number) (version_below store d c cs all.well e versioned))))
             (λ sees q other. push_touches sees store q page k node v index free (λ above older w visible is_live here. absurd (seen_elsewhere sees store q page (apart q other) above older w visible is_live here)));
-        elsewhere = λ q other left. will_same left store.lobs (on_lob page (λ l. with_nodes index free (at_piece k (pushed node v) l)) store.lobs) (row_before store q)
-            (same_elsewhere page (λ l. with_nodes index free (at_piece k (pushed node v) l)) store.lobs (λ l. refl) (row_before store q) (apart q other).0);
+        elsewhere = λ q other. record {
+          parts = shown_same store.lobs (on_lob page (λ l. with_nodes index free (at_piece k (pushed node v) l)) store.lobs) (row_before store q)
+              (same_elsewhere page (λ l. with_nodes index free (at_piece k (pushed node v) l)) store.lobs (λ l. refl) (row_before store q) (apart q other).0);
+          row = λ is_live. refl;
+        };
       }

@@ -10,6 +10,7 @@ use Rattle.kept_model.specs.Names.{is_old, AreLogs}
 use Rattle.kept_model.specs.Stored.{IsStored}
 use Rattle.kept_model.specs.Sessions.{IsSession, own_docs, record_docs, session_records, HasRecords, IsLogged, AreLocks}
 use Rattle.kept_model.specs.Views.{IsViewed, IsRead, IsMaking}
+use Rattle.kept_model.specs.Fetches.{IsFetched}
 use Rattle.kept_model.specs.Kept.{IsCalm, AreCounts, AreGiven}
 
 abbrev pub with_trx : ℕ → Session → Session
@@ -40,3 +41,4 @@ pub record IsBegun (s : ℕ) (o : Opening) (script : Script) (e : Engine) : Type
   pub views : (t : ℕ) → IsViewed o script e.journal e.store t (e.sessions t)
   pub reads : (t : ℕ) → IsRead o script e.journal e.store t (e.sessions t)
   pub making : (t : ℕ) → IsMaking o script e.journal e.store t (e.sessions t)
+  pub fetched : (t : ℕ) → IsFetched e.store (e.sessions t)

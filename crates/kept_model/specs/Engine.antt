@@ -6,7 +6,6 @@ use Rattle.std.specs.Prelude.{ℕ, Bool, false, not, ◌==◌, ◌&&◌, ◌||�
 use Rattle.std.specs.List.{list_any}
 use Rattle.journal_model.specs.Journal.{Level, Undoer, Reply, Entry}
 use Rattle.store_data.specs.Store.{Store}
-use Rattle.store_data.specs.Pieces.{Part}
 use Rattle.read_model.specs.Flight.{Flight}
 
 -- ---- views
@@ -39,8 +38,8 @@ pub data Task : Type 0 where
   idle : Task
   -- a change whose lock isn't granted
   asking : (doc : ℕ) → Task
-  -- it has the lock, and has read so many pieces of the newest document
-  fetching : (doc : ℕ) → List Part → Task
+  -- it has the lock, and reads the newest document
+  fetching : (doc : ℕ) → Flight → Task
   -- it is planned: its row and its record stand
   making : (doc : ℕ) → Left → Reply → Task
   reading : (doc : ℕ) → Flight → Task

@@ -1,23 +1,19 @@
 -- The facts that tie an engine to its journal, between two events.
---     IsCalm, AreCounts, IsRoomy      the journal is legal and nothing is due; the counts are the
---         journal's; pages in use are within the ceiling
+--     IsCalm, AreCounts      the journal is legal and nothing is due; the counts are the journal's
 --     Kept, KeptPages      all of them, each part by itself
-use Rattle.std.specs.Prelude.{◌≡◌, ◌≤◌, ◌<◌, ◌+◌, ℕ, true, List, length, Option, None}
+use Rattle.std.specs.Prelude.{◌≡◌, ◌≤◌, ◌<◌, ℕ, true, List, Option, None}
 use Rattle.journal_model.specs.Journal.{Script, Entry, Opening}
-use Rattle.journal_model.specs.Held.{total}
 use Rattle.journal_model.specs.Part.{commits_of, purged_of}
-use Rattle.journal_model.specs.Locks.{sessions}
 use Rattle.journal_model.specs.Legal.{IsLegal, commit_due, restart_due}
-use Rattle.journal_model.specs.Ceiling.{ceiling}
 use Rattle.store_data.specs.Store.{Store}
 use Rattle.store_model.specs.History.{history}
-use Rattle.store_model.specs.Owned.{owned}
 use Rattle.store_model.specs.Consistent.{IsConsistent}
-use Rattle.kept_model.specs.Engine.{Session, Engine}
+use Rattle.kept_model.specs.Engine.{Engine}
 use Rattle.kept_model.specs.Names.{is_old, AreLogs}
 use Rattle.kept_model.specs.Stored.{IsStored}
 use Rattle.kept_model.specs.Sessions.{IsSession, IsLogged, AreLocks}
 use Rattle.kept_model.specs.Views.{AllPast, IsViewed, IsRead, IsMaking}
+use Rattle.kept_model.specs.Fetches.{IsFetched}
 use Rattle.kept_model.specs.Held.{IsHeld}
 
 -- a commit is due in the midst of an event alone
@@ -39,13 +35,6 @@ pub record AreCounts (o : Opening) (past : List Entry) (store : Store) : Type 0 
 abbrev pub AreGiven : Store → ℕ → Type 0
 AreGiven store d = AllPast (λ x. x < store.next_trx) (history store d)
 
-abbrev pub reserved_pages : (ℕ → Session) → ℕ
-reserved_pages tasks = total (λ s. (tasks s).reserved) sessions
-
-abbrev pub IsRoomy : Opening → Script → Engine → Type 0
-IsRoomy o script e = length (owned e.store) + reserved_pages e.sessions
-    ≤ ceiling o script None e.journal
-
 -- without the counts of pages
 pub record KeptAt (due : Option ℕ) (o : Opening) (script : Script) (e : Engine) : Type 0 where
   -- the journal
@@ -66,12 +55,11 @@ pub record KeptAt (due : Option ℕ) (o : Opening) (script : Script) (e : Engine
   pub views : (s : ℕ) → IsViewed o script e.journal e.store s (e.sessions s)
   pub reads : (s : ℕ) → IsRead o script e.journal e.store s (e.sessions s)
   pub making : (s : ℕ) → IsMaking o script e.journal e.store s (e.sessions s)
+  pub fetched : (s : ℕ) → IsFetched e.store (e.sessions s)
 
 abbrev pub Kept : Opening → Script → Engine → Type 0
 Kept o script e = KeptAt None o script e
 
--- which versions are held, and how many pages are in use
-pub record KeptPages (o : Opening) (script : Script) (e : Engine) (k : Kept o script e) : Type 0
-  where
-    pub held : (d : ℕ) → IsHeld o script e d (k.stored d)
-    pub room : IsRoomy o script e
+-- which versions are held, beside them
+pub record KeptPages (o : Opening) (script : Script) (e : Engine) : Type 0 where
+  pub held : (d : ℕ) → IsHeld o script e d

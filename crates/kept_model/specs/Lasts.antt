@@ -6,7 +6,7 @@ use Rattle.std.specs.Prelude.{◌≡◌, ◌≢◌, ℕ, true, false, List, [], 
 use Rattle.page_model.specs.Pages.{Address}
 use Rattle.store_data.specs.Store.{Record, Log, Store}
 use Rattle.store_data.specs.Pieces.{Part}
-use Rattle.store_model.specs.History.{changes, row_before, stands}
+use Rattle.store_model.specs.History.{changes, stands}
 use Rattle.store_model.specs.Steps.{log_of}
 use Rattle.store_model.specs.Undo.{is_gone, without_newest}
 use Rattle.store_model.specs.Moves.{KeepsAll}
@@ -15,9 +15,9 @@ use Rattle.store_model.specs.Consistent.{IsConsistent}
 use Rattle.read_model.specs.Document.{Sees}
 use Rattle.read_model.specs.Flight.{Flight, IsFlight}
 use Rattle.read_model.specs.OfStore.{document}
-use Rattle.kept_model.specs.Engine.{Left, Engine, with_session}
+use Rattle.kept_model.specs.Engine.{Engine, with_session}
 use Rattle.kept_model.specs.Sessions.{record_docs, session_records}
-use Rattle.kept_model.specs.Views.{will_show}
+use Rattle.kept_model.specs.Fetches.{KeepsNewest}
 use Rattle.kept_model.specs.Undoes.{handed_flight, handed_session}
 
 pub record Ends (trx : ℕ) (place : Address) (u : Record) (old new : Store) : Type 0 where
@@ -40,8 +40,7 @@ pub record Ends (trx : ℕ) (place : Address) (u : Record) (old new : Store) : T
       → sees u.before.trx ≡ true)
       → IsFlight sees (document old d) parts f
       → IsFlight sees (document new d) parts (handed_flight u.doc place u d f)
-  pub elsewhere : (d : ℕ) → d ≢ u.doc → (left : Left)
-      → will_show left new.lobs (row_before new d) ≡ will_show left old.lobs (row_before old d)
+  pub elsewhere : (d : ℕ) → d ≢ u.doc → KeepsNewest d old new
 
 -- the log of a transaction that has one record
 pub record HasOne (trx : ℕ) (place : Address) (u : Record) (logs : List Log) : Type 0 where

@@ -5,6 +5,8 @@ pub mod Stored
 pub mod Sessions
 pub mod Views
 pub mod Held
+pub mod Pages
+pub mod Room
 pub mod Kept
 pub mod Commits
 pub mod Plans
@@ -23,3 +25,5 @@ pub mod Drops
 pub mod Quiet
 pub mod Waits
 pub mod Worked
+pub mod Paged
+pub mod Fetches

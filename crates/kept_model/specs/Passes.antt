@@ -3,15 +3,15 @@
 use Rattle.std.specs.Prelude.{◌≡◌, ◌≢◌, ◌⊎◌, ℕ, true, List, [], ◌∷◌, ◌++◌, Option, None}
 use Rattle.store_data.specs.Store.{Record, Log, Store}
 use Rattle.store_data.specs.Pieces.{Part}
-use Rattle.store_model.specs.History.{Past, history, row_before}
+use Rattle.store_model.specs.History.{Past, history}
 use Rattle.store_model.specs.Moves.{KeepsAll}
 use Rattle.store_model.specs.Consistent.{IsConsistent}
 use Rattle.read_model.specs.Document.{Sees}
 use Rattle.read_model.specs.Flight.{Flight, IsFlight}
 use Rattle.read_model.specs.OfStore.{document}
-use Rattle.kept_model.specs.Engine.{Left, Engine}
+use Rattle.kept_model.specs.Engine.{Engine}
 use Rattle.kept_model.specs.Rows.{SameTrx, SameTo}
-use Rattle.kept_model.specs.Views.{will_show}
+use Rattle.kept_model.specs.Fetches.{KeepsNewest}
 
 pub record Passes (l : Log) (ls : List Log) (u : Record) (old new : Store) : Type 0 where
   -- the newest rows, that of the purged transaction, and the one before it
@@ -26,7 +26,7 @@ pub record Passes (l : Log) (ls : List Log) (u : Record) (old new : Store) : Typ
   pub same : SameTrx (newer ++ (own ∷ [])) middle
   pub bytes : SameTo l.trx (newer ++ (own ∷ [])) middle
   pub now : (history new u.doc ≡ middle) ⊎ ((p : Past) × (middle ≡ p ∷ []) × (p.bytes ≡ None)
-      × (history new u.doc ≡ record { trx = 0; bytes = None } ∷ []))
+      × (history new u.doc ≡ record { trx = 0; length = 0; bytes = None } ∷ []))
   pub others : (d : ℕ) → d ≢ u.doc → KeepsAll d old new
   pub consistent : IsConsistent new
   pub next : new.next_trx ≡ old.next_trx
@@ -41,8 +41,7 @@ pub record Passes (l : Log) (ls : List Log) (u : Record) (old new : Store) : Typ
   pub reads : (sees : Sees) (d : ℕ) (parts : Option (List Part)) (f : Flight) → sees l.trx ≡ true
       → sees 0 ≡ true
       → IsFlight sees (document old d) parts f → IsFlight sees (document new d) parts f
-  pub shows : (d : ℕ) → (d ≡ u.doc → newer ≢ []) → (left : Left)
-      → will_show left new.lobs (row_before new d) ≡ will_show left old.lobs (row_before old d)
+  pub shows : (d : ℕ) → KeepsNewest d old new
 
 abbrev pub pass_event : Store → Engine → Engine
 pass_event store e = record e { store = store }

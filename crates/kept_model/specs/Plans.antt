@@ -5,7 +5,7 @@ use Rattle.std.specs.Prelude.{◌≡◌, ◌≢◌, ℕ, false, List, ◌∷◌,
 use Rattle.journal_model.specs.Journal.{Reply}
 use Rattle.store_data.specs.Store.{Store}
 use Rattle.store_data.specs.Pieces.{Part}
-use Rattle.store_model.specs.History.{row_before, stands}
+use Rattle.store_model.specs.History.{stands}
 use Rattle.store_model.specs.Steps.{log_of}
 use Rattle.store_model.specs.Events.{Plan}
 use Rattle.store_model.specs.Moves.{Begins}
@@ -15,7 +15,7 @@ use Rattle.read_model.specs.Flight.{Flight, IsFlight}
 use Rattle.read_model.specs.OfStore.{document}
 use Rattle.kept_model.specs.Engine.{Left, making, Session, Engine, with_session}
 use Rattle.kept_model.specs.Sessions.{record_docs, session_records}
-use Rattle.kept_model.specs.Views.{will_show}
+use Rattle.kept_model.specs.Fetches.{KeepsNewest}
 
 pub record Plans (p : Plan) (old new : Store) : Type 0 where
   pub begins : Begins p old new
@@ -30,8 +30,7 @@ pub record Plans (p : Plan) (old new : Store) : Type 0 where
       ∷ record_docs (session_records old (Some p.trx))
   pub reads : (sees : Sees) (d : ℕ) (parts : Option (List Part)) (f : Flight) → sees p.trx ≡ false
       → IsFlight sees (document old d) parts f → IsFlight sees (document new d) parts f
-  pub others : (d : ℕ) → d ≢ p.doc → (left : Left) → will_show left new.lobs (row_before new d)
-      ≡ will_show left old.lobs (row_before old d)
+  pub others : (d : ℕ) → d ≢ p.doc → KeepsNewest d old new
 
 abbrev pub at_work : ℕ → Left → Reply → Session → Session
 at_work d left r x = record x { task = making d left r }

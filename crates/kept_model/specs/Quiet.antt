@@ -11,6 +11,7 @@ use Rattle.kept_model.specs.Engine.{Session, Engine, with_session}
 use Rattle.kept_model.specs.Stored.{Front, whole, undone, front, IsAhead}
 use Rattle.kept_model.specs.Sessions.{IsSession, IsLogged, AreLocks}
 use Rattle.kept_model.specs.Views.{IsViewed, IsRead, IsMaking}
+use Rattle.kept_model.specs.Fetches.{IsFetched}
 use Rattle.kept_model.specs.Kept.{IsCalm}
 use Rattle.kept_model.specs.Ended.{SaysSame}
 
@@ -44,6 +45,7 @@ pub record IsQuiet (o : Opening) (script : Script) (s : ℕ) (x : Session) (lock
   pub views : IsViewed o script past e.store s x
   pub reads : IsRead o script past e.store s x
   pub making : IsMaking o script past e.store s x
+  pub fetched : IsFetched e.store x
   -- the locks
   pub locked : (d : ℕ) → AreLocks script past locks (with_session s x e.sessions) d
   pub turns : (d : ℕ) → Turns s (front e d) (front (quiet_event s x locks past e) d)

@@ -6,7 +6,7 @@ use Rattle.std.specs.Prelude.{◌≡◌, ◌≢◌, ℕ, ◌==◌, true, false, 
 use Rattle.page_model.specs.Pages.{Address}
 use Rattle.store_data.specs.Store.{Record, Log, Store}
 use Rattle.store_data.specs.Pieces.{Part}
-use Rattle.store_model.specs.History.{changes, row_before, stands}
+use Rattle.store_model.specs.History.{changes, stands}
 use Rattle.store_model.specs.Steps.{log_of}
 use Rattle.store_model.specs.Undo.{is_gone, without_newest}
 use Rattle.store_model.specs.Moves.{KeepsAll}
@@ -16,9 +16,9 @@ use Rattle.read_model.specs.Document.{Sees}
 use Rattle.read_model.specs.Flight.{Flight, IsFlight}
 use Rattle.read_model.specs.Steps.{hand_on}
 use Rattle.read_model.specs.OfStore.{document}
-use Rattle.kept_model.specs.Engine.{Left, Task, idle, asking, fetching, making, reading, undoing, Session, Engine}
+use Rattle.kept_model.specs.Engine.{Task, idle, asking, fetching, making, reading, undoing, Session, Engine}
 use Rattle.kept_model.specs.Sessions.{record_docs, session_records}
-use Rattle.kept_model.specs.Views.{will_show}
+use Rattle.kept_model.specs.Fetches.{KeepsNewest}
 
 abbrev pub handed_flight : ℕ → Address → Record → ℕ → Flight → Flight
 handed_flight doc a u d f = if d == doc then hand_on a u f else f
@@ -26,7 +26,7 @@ handed_flight doc a u d f = if d == doc then hand_on a u f else f
 abbrev pub handed_task : ℕ → Address → Record → Task → Task
 handed_task doc a u idle = idle
 handed_task doc a u (asking d) = asking d
-handed_task doc a u (fetching d ps) = fetching d ps
+handed_task doc a u (fetching d f) = fetching d (handed_flight doc a u d f)
 handed_task doc a u (making d left r) = making d left r
 handed_task doc a u (reading d f) = reading d (handed_flight doc a u d f)
 handed_task doc a u (undoing v) = undoing v
@@ -55,8 +55,7 @@ pub record Undoes (trx : ℕ) (place : Address) (u : Record) (old new : Store) :
       → sees u.before.trx ≡ true)
       → IsFlight sees (document old d) parts f
       → IsFlight sees (document new d) parts (handed_flight u.doc place u d f)
-  pub elsewhere : (d : ℕ) → d ≢ u.doc → (left : Left)
-      → will_show left new.lobs (row_before new d) ≡ will_show left old.lobs (row_before old d)
+  pub elsewhere : (d : ℕ) → d ≢ u.doc → KeepsNewest d old new
 
 -- the log of a transaction that has more than one record
 pub record HasMore (trx : ℕ) (place : Address) (u : Record) (logs : List Log) : Type 0 where

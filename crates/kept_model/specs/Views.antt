@@ -5,7 +5,7 @@
 --         journal says
 --     IsMaking      what a change has made and what is left of it are the document that it is to
 --         leave
-use Rattle.std.specs.Prelude.{◌≡◌, ℕ, zero, suc, ◌≤◌, true, false, List, [], ◌∷◌, ◌++◌, map, Option, Some, None, option_map}
+use Rattle.std.specs.Prelude.{◌≡◌, ℕ, zero, suc, ◌≤◌, true, false, List, [], ◌∷◌, ◌++◌, map, Option, Some, None, option_map, length}
 use Rattle.journal_model.specs.Documents.{Call, call_doc}
 use Rattle.journal_model.specs.Journal.{Script, call, Reply, Entry, Opening}
 use Rattle.journal_model.specs.Part.{is_ok_reply, under_way, view_of, newest, shown}
@@ -81,13 +81,20 @@ completed nothing ps = joined ps
 completed (adding more) ps = joined ps ++ flat more
 completed (pushing more) ps = flat (all_new more (map (λ p. p.bytes) ps))
 
-abbrev pub shown_by : (List Part → List ℕ) → RowState → List Part → Option (List ℕ)
-shown_by f absent ps = None
-shown_by f live ps = Some (f ps)
-shown_by f deleted ps = None
+-- the pieces that a row shows; none where it shows no document
+abbrev pub shown_by : RowState → List Part → Option (List Part)
+shown_by absent ps = None
+shown_by live ps = Some ps
+shown_by deleted ps = None
+
+abbrev pub parts_shown : List Lob → Row → Option (List Part)
+parts_shown lobs row = shown_by row.state (parts lobs row.lob)
+
+abbrev pub newest_parts : Store → ℕ → Option (List Part)
+newest_parts store d = parts_shown store.lobs (row_before store d)
 
 abbrev pub will_show : Left → List Lob → Row → Option (List ℕ)
-will_show left lobs row = shown_by (completed left) row.state (parts lobs row.lob)
+will_show left lobs row = option_map (completed left) (parts_shown lobs row)
 
 pub record IsMakingOf (o : Opening) (script : Script) (past : List Entry) (store : Store) (s : ℕ)
     (d : ℕ) (left : Left) (r : Reply) : Type 0 where
@@ -96,6 +103,9 @@ pub record IsMakingOf (o : Opening) (script : Script) (past : List Entry) (store
   pub doc : call_doc change ≡ d
   pub reply : r ≡ reply_to change (newest o script s past)
   pub ok : is_ok_reply r ≡ true
+  -- its reference has the length that will be
+  pub measured : (bytes : List ℕ) → will_show left store.lobs (row_before store d) ≡ Some bytes
+      → (row_before store d).lob.length ≡ length bytes
   pub ends : will_show left store.lobs (row_before store d)
       ≡ bytes_of (one_made s change (newest_in s (journal.history o script past d))).left
 

@@ -5,6 +5,8 @@ use Rattle.std.specs.Prelude.{ℕ, codes, List, [], ◌∷◌, Some, None}
 use Rattle.tree_model.specs.Tree.{Tree, number, object, no_members, member}
 use Rattle.std.specs.Prelude.{pos}
 use Rattle.journal_model.specs.Journal.{rr, full, part, done, doc, by_rollback, Start, View, Did, Undone}
+use Rattle.journal_model.specs.Held.{versioned}
+use Rattle.journal_model.specs.History.{commit, Made}
 use Rattle.store_data.specs.Store.{Row, Piece, Lob, patched, inserted, Record}
 use Rattle.store_model.specs.History.{row_before, absent_row}
 use Rattle.store_model.specs.Steps.{on_lob, with_nodes, with_piece}
@@ -28,6 +30,7 @@ use Rattle.kept_model.specs.Lasts.{last_event}
 use Rattle.kept_model.specs.Ended.{undone_event}
 use Rattle.kept_model.specs.Passes.{pass_event}
 use Rattle.kept_model.specs.Purges.{begun_event, purged_event}
+use Rattle.kept_model.specs.Fetches.{fetch_begun}
 
 -- ---- the document
 
@@ -61,7 +64,7 @@ starts s i k e =
 -- a change that is granted its lock at once
 abbrev pub starts_change : ℕ → ℕ → ℕ → Engine → Engine
 starts_change s i d e =
-    quiet_event s (record (e.sessions s) { task = fetching d [] }) (granted d s e.locks)
+    quiet_event s (record (e.sessions s) { task = fetching d (fetch_begun e.store d) }) (granted d s e.locks)
     (Start s i ∷ e.journal) e
 
 -- ---- session 1 inserts it
@@ -154,3 +157,8 @@ abbrev pub e_purged : Engine
 e_purged =
     let e = begun_event e_answered in
     purged_event (pass_event (record_passed (place 9 107) 1 made e.store) e)
+
+-- ---- a change that touches two pieces of three
+
+abbrev pub a_change : Made
+a_change = record { owner = commit 1; kind = versioned (1 ∷ 3 ∷ []); left = None }

@@ -21,6 +21,7 @@ ghost use Rattle.kept_model.specs.Engine.{ReadView, Left, nothing, idle, fetchin
 ghost use Rattle.kept_model.specs.Names.{is_old};
 ghost use Rattle.kept_model.specs.Rows.{bytes_of};
 ghost use Rattle.kept_model.specs.Views.{will_show};
+ghost use Rattle.kept_model.specs.Fetches.{fetch_begun};
 ghost use Rattle.kept_model.specs.Commits.{commit_event, due_event};
 ghost use Rattle.kept_model.specs.Plans.{Plans, plan_event};
 ghost use Rattle.kept_model.specs.Begun.{log_event};
@@ -44,12 +45,14 @@ pub fn commit_keeps()
 pub fn plan_keeps()
     ensures { (o : Opening) (script : Script) (e : Engine) → Kept o script e
         → (s : ℕ) (p : Plan) (left : Left) (r : Reply) (next : Store) → Plans p e.store next
-        → (read : List Part) → (e.sessions s).task ≡ fetching p.doc read
+        → (read : Flight) → (e.sessions s).task ≡ fetching p.doc read
         → (e.sessions s).trx ≡ Some p.trx
         → (c : Call) → under_way script s e.journal ≡ Some (call c) → call_doc c ≡ p.doc
         → r ≡ reply_to c (newest o script s e.journal) → is_ok_reply r ≡ true
         → will_show left next.lobs (row_before next p.doc)
         ≡ bytes_of (one_made s c (newest_in s (history o script e.journal p.doc))).left
+        → ((bytes : List ℕ) → will_show left next.lobs (row_before next p.doc) ≡ Some bytes
+        → (row_before next p.doc).lob.length ≡ length bytes)
         → Kept o script (plan_event s p left r next e) }
 {}
 
@@ -60,12 +63,14 @@ pub fn first_plan_keeps()
         → (s page : ℕ) (p : Plan)
         → (left : Left) (r : Reply) (next : Store) → IsNotAmong page (owned e.store)
         → Plans p (log_event s page e).store next
-        → (read : List Part) → (e.sessions s).task ≡ fetching p.doc read
+        → (read : Flight) → (e.sessions s).task ≡ fetching p.doc read
         → (e.sessions s).trx ≡ None → p.trx ≡ e.store.next_trx
         → (c : Call) → under_way script s e.journal ≡ Some (call c) → call_doc c ≡ p.doc
         → r ≡ reply_to c (newest o script s e.journal) → is_ok_reply r ≡ true
         → will_show left next.lobs (row_before next p.doc)
         ≡ bytes_of (one_made s c (newest_in s (history o script e.journal p.doc))).left
+        → ((bytes : List ℕ) → will_show left next.lobs (row_before next p.doc) ≡ Some bytes
+        → (row_before next p.doc).lob.length ≡ length bytes)
         → Kept o script (plan_event s p left r next (log_event s page e)) }
 {}
 
@@ -74,7 +79,7 @@ pub fn first_plan_keeps()
 pub fn log_may_change()
     ensures { (o : Opening) (script : Script) (e : Engine) → Kept o script e
         → (s page : ℕ) (p : Plan)
-        → (read : List Part) → (e.sessions s).task ≡ fetching p.doc read
+        → (read : Flight) → (e.sessions s).task ≡ fetching p.doc read
         → (e.sessions s).trx ≡ None → p.trx ≡ e.store.next_trx
         → IsNotAmong page (owned e.store)
         → IsConsistent (log_event s page e).store × MayChange p (log_event s page e).store }
@@ -146,6 +151,6 @@ pub fn change_is_granted()
         → i ≡ answered s e.journal + 1 → i ≤ length (statements s script)
         → is_in s sessions ≡ true → ((e.locks (call_doc c) ≡ None)
         ⊎ (e.locks (call_doc c) ≡ Some s))
-        → IsQuiet o script s (record (e.sessions s) { task = fetching (call_doc c) [] })
+        → IsQuiet o script s (record (e.sessions s) { task = fetching (call_doc c) (fetch_begun e.store (call_doc c)) })
         (granted (call_doc c) s e.locks) (Start s i ∷ e.journal) e }
 {}

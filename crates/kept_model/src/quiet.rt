@@ -17,6 +17,7 @@ ghost use Rattle.kept_model.specs.Engine.{ReadView, sees_by, idle, asking, fetch
 ghost use Rattle.kept_model.specs.Reading.{view_now};
 ghost use Rattle.kept_model.specs.Quiet.{granted, quiet_event};
 ghost use Rattle.kept_model.specs.Answers.{IsRefusedBy, answered_at, answer_event, at_once, outside_session, opened_session};
+ghost use Rattle.kept_model.specs.Fetches.{fetch_begun, fetch_event};
 ghost use Rattle.kept_model.specs.Kept.{Kept};
 
 /// A change is started and isn't granted its lock.
@@ -43,15 +44,16 @@ pub fn lock_is_granted()
     ensures { (o : Opening) (script : Script) (e : Engine) → Kept o script e → (s d : ℕ)
         → (e.sessions s).task ≡ asking d → is_in s sessions ≡ true
         → (e.locks d ≡ None) ⊎ (e.locks d ≡ Some s)
-        → Kept o script (quiet_event s (record (e.sessions s) { task = fetching d [] })
+        → Kept o script (quiet_event s (record (e.sessions s) { task = fetching d (fetch_begun e.store d) })
         (granted d s e.locks) e.journal e) }
 {}
 
-/// A change reads one more piece of its document.
+/// A change reads on in its document: one more piece.
 pub fn piece_is_read()
     ensures { (o : Opening) (script : Script) (e : Engine) → Kept o script e
-        → (s d : ℕ) (ps qs : List Part) → (e.sessions s).task ≡ fetching d ps
-        → Kept o script (quiet_event s (record (e.sessions s) { task = fetching d qs }) e.locks
+        → (s d : ℕ) (f : Flight) → (e.sessions s).task ≡ fetching d f
+        → Kept o script (quiet_event s
+        (record (e.sessions s) { task = fetching d (fetch_event e.store d f) }) e.locks
         e.journal e) }
 {}
 
@@ -75,7 +77,7 @@ pub fn refusal_keeps()
     ensures { (o : Opening) (script : Script) (e : Engine) → Kept o script e
         → (s i : ℕ) (c : Call) → unanswered s e.journal ≡ Some i
         → statement script s i ≡ Some (call c)
-        → (ps : List Part) → (e.sessions s).task ≡ fetching (call_doc c) ps → (r : Reply)
+        → (f : Flight) → (e.sessions s).task ≡ fetching (call_doc c) f → (r : Reply)
         → IsRefusedBy o script s c r e.journal → Kept o script (answer_event s i r idle e) }
 {}
 
@@ -101,8 +103,8 @@ pub fn memory_keeps()
     ensures change { (o : Opening) (script : Script) (e : Engine) → Kept o script e
         → (s i : ℕ) (c : Call) → unanswered s e.journal ≡ Some i
         → statement script s i ≡ Some (call c)
-        → ((e.sessions s).task ≡ asking (call_doc c)) ⊎ ((ps : List Part)
-        × ((e.sessions s).task ≡ fetching (call_doc c) ps))
+        → ((e.sessions s).task ≡ asking (call_doc c)) ⊎ ((f : Flight)
+        × ((e.sessions s).task ≡ fetching (call_doc c) f))
         → Kept o script (answer_event s i memory idle e) }
     ensures read { (o : Opening) (script : Script) (e : Engine) → Kept o script e
         → (s i d : ℕ) (f : Flight) → unanswered s e.journal ≡ Some i

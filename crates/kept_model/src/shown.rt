@@ -1,25 +1,27 @@
 //! What a kept engine shows is what its journal says, whatever statements, rollbacks and purges are
 //! half done.
-ghost use Rattle.std.specs.Prelude.{◌≡◌, ◌≤◌, ◌<◌, ℕ, List, Option, Some, None, option_map, false};
+ghost use Rattle.std.specs.Prelude.{◌≡◌, ◌≤◌, ◌<◌, ℕ, List, length, Option, Some, None, option_map, false};
 ghost use Rattle.journal_model.specs.Documents.{look};
 ghost use Rattle.journal_model.specs.Journal.{Script, Opening, Reply, Undoer};
-ghost use Rattle.journal_model.specs.Part.{docs, shown};
+ghost use Rattle.journal_model.specs.Part.{docs, newest, shown};
 ghost use Rattle.history_model.specs.Laws.{IsRun};
 ghost use Rattle.page_model.specs.Pages.{Address};
-ghost use Rattle.store_data.specs.Store.{Record};
+ghost use Rattle.store_data.specs.Store.{Row, Record};
 ghost use Rattle.store_model.specs.Events.{Plan};
 ghost use Rattle.store_model.specs.Locked.{newest_in};
 ghost use Rattle.store_model.specs.Moves.{MayChange, IsNewest};
 ghost use Rattle.store_data.specs.Pieces.{Part};
 ghost use Rattle.store_model.specs.Lobs.{joined};
-ghost use Rattle.store_model.specs.History.{stands, under};
+ghost use Rattle.store_model.specs.History.{row_before, stands, under};
 ghost use Rattle.read_model.specs.Flight.{Flight, Ready, Absent, IsFlight};
+ghost use Rattle.read_model.specs.Patches.{Entry as Undo};
+ghost use Rattle.read_model.specs.Document.{IsVisible};
 ghost use Rattle.read_model.specs.Steps.{opened};
 ghost use Rattle.read_model.specs.OfStore.{document};
-ghost use Rattle.kept_model.specs.Engine.{ReadView, sees_by, Left, making, reading, undoing, Engine};
+ghost use Rattle.kept_model.specs.Engine.{ReadView, sees_by, Left, fetching, making, reading, undoing, Engine};
 ghost use Rattle.kept_model.specs.Rows.{bytes_of};
 ghost use Rattle.kept_model.specs.Stored.{known_from};
-ghost use Rattle.kept_model.specs.Views.{IsViewIn};
+ghost use Rattle.kept_model.specs.Views.{newest_parts, IsViewIn};
 ghost use Rattle.kept_model.specs.Reading.{view_now};
 ghost use Rattle.kept_model.specs.Kept.{Kept};
 
@@ -51,6 +53,19 @@ pub fn read_begins()
         (opened (sees_by (e.sessions s).trx v) (document e.store d)) }
 {}
 
+/// The row that a read finds has the length of the document that the journal shows: as many bytes
+/// its buffer has.
+pub fn found_row_is_measured()
+    ensures { (o : Opening) (script : Script) → IsRun o script → (e : Engine) → Kept o script e
+        → (s : ℕ) (v : ReadView) → (e.sessions s).view ≡ Some v → (d : ℕ)
+        → ((left : Left) (r : Reply) → (e.sessions s).task ≡ making d left r → ⊥)
+        → ((u : Undoer) → (e.sessions s).task ≡ undoing u → ⊥)
+        → (above older : List Undo) (row : Row)
+        → IsVisible (sees_by (e.sessions s).trx v) (document e.store d) above older row
+        → (bytes : List ℕ) → bytes_of (shown o script s d e.journal) ≡ Some bytes
+        → row.lob.length ≡ length bytes }
+{}
+
 /// A read that is ready has copied the bytes of the document that the journal shows, and an absent
 /// one is shown none.
 pub fn read_is_right()
@@ -73,4 +88,18 @@ pub fn newest_is_locked()
         → (s trx : ℕ) (place : Address) (u : Record) → (e.sessions s).trx ≡ Some trx
         → newest_in trx e.store.active ≡ Some (place, u)
         → (e.locks u.doc ≡ Some s) × IsNewest trx place u e.store }
+{}
+
+/// What a change finds as its document's newest pieces, while it reads them, are the bytes of the
+/// newest document that the journal says: so a change that has read them all is planned on those.
+/// Its row's reference has their length.
+pub fn newest_is_fetched()
+    ensures bytes { (o : Opening) (script : Script) → IsRun o script → (e : Engine)
+        → Kept o script e → (s d : ℕ) (f : Flight) → (e.sessions s).task ≡ fetching d f
+        → option_map joined (newest_parts e.store d)
+        ≡ bytes_of (look (newest o script s e.journal) d) }
+    ensures length { (o : Opening) (script : Script) → IsRun o script → (e : Engine)
+        → Kept o script e → (s d : ℕ) (f : Flight) → (e.sessions s).task ≡ fetching d f
+        → (ps : List Part) → newest_parts e.store d ≡ Some ps
+        → (row_before e.store d).lob.length ≡ length (joined ps) }
 {}
