@@ -1,5 +1,5 @@
 // A record appended.
-ghost use Rattle.std.specs.Prelude.{◌≡◌, ◌+◌, ◌*◌, ◌≤◌, ◌<◌, [], ◌∷◌, length, Some, IfOk, IfErr, IfSome};
+ghost use Rattle.std.specs.Prelude.{◌≡◌, ◌+◌, ◌*◌, ◌^◌, ◌≤◌, ◌<◌, [], ◌∷◌, length, Some, IfOk, OnOk, IfErr, IfSome};
 ghost use Rattle.page_model.specs.Pages.{Pages};
 ghost use Rattle.page_model.specs.Steps.{MayUse, Uses, Becomes, write_head};
 ghost use Rattle.engine_base.specs.Faults.{HasCause, FailsPlainly};
@@ -21,8 +21,8 @@ use file_lists::last;
 use page_space::Space;
 use undo_records::{RollPtr, UndoRecord, is_previous};
 
-/// The pointer to a record there.
-pub(crate) fn pointer(inserts: bool, at: Addr) -> RollPtr
+/// The pointer to a record there, with the bit of an insert or without it.
+pub fn pointer(inserts: bool, at: Addr) -> RollPtr
     ensures { result.0 ≡ pointer inserts (address_of at) }
 {
     let place = u64::from(at.page.0) * 65_536 + u64::from(at.at);
@@ -97,6 +97,7 @@ fn place<P: Pages>(p: &mut P, space: &mut Space, log: PageNo, size: usize) -> Re
         IsPlaced l size (address_of at) pages new × (space.new ≤ free_of new))) }
     ensures place { IfOk result (λ at. at.page.0 < (P.state p.old).count) }
     ensures within { IfOk result (λ at. at.at + size ≤ record_end) }
+    ensures takes { OnOk result (space.old ≤ space.new + 1) }
     ensures never { (pages : Pages) (l : Log) → (P.state p.old).told ≡ Some pages
         → l.page ≡ log.0 → CanAppend l pages → space.old ≤ free_of pages → FailsPlainly result }
     ensures cause { HasCause (P.state p.old).faults (P.state p.new).faults result }
@@ -144,6 +145,9 @@ pub fn append<P: Pages>(
         → (record_of rec.now).number ≡ length (records_of l)
         → IfOk result (λ roll. Becomes (P.state p.new).told (λ new.
         AppendsRecord l (record_of rec.now) roll.0 pages new × (space.new ≤ free_of new))) }
+    // A row has 56 bits for a roll pointer.
+    ensures narrow { IfOk result (λ roll. roll.0 < 2 ^ 56) }
+    ensures takes { OnOk result (space.old ≤ space.new + 1) }
     ensures never { (pages : Pages) (l : Log) → (P.state p.old).told ≡ Some pages
         → l.page ≡ log.0 → CanAppend l pages → space.old ≤ free_of pages → FailsPlainly result }
     ensures cause { HasCause (P.state p.old).faults (P.state p.new).faults result }

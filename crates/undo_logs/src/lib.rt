@@ -16,7 +16,7 @@ mod purged;
 mod put;
 mod reads;
 
-pub use appending::append;
+pub use appending::{append, pointer};
 pub use beginning::begin_log;
 pub use committed::{begin_purge, purged_one};
 pub use committing::commit;
