@@ -76,6 +76,8 @@ impl RowDir {
             (λ pages rows. IsDirectory self.now rows
             → IfOk result (λ row. option_map row_of row ≡ row_for doc.0 (rows_of rows))) }
         ensures doc { IfOk result (λ row. IfSome row (λ r. r.doc ≡ doc)) }
+        ensures place { IfOk result
+            (λ row. is_some row ≡ is_some (get nat_eq self.now.places doc.0)) }
 
         // Strange names the slot's state, or its document.
         ensures honest { IfErr result
