@@ -1,5 +1,9 @@
 pub mod TouchedLemmas
 pub mod LobLemmas
 pub mod PartLemmas
+pub mod KeptLemmas
+pub mod CutLemmas
 pub mod UseLemmas
+pub mod RunLemmas
 pub mod NextLemmas
+pub mod TakenLemmas

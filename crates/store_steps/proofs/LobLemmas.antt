@@ -16,8 +16,8 @@ use Rattle.undo_model.specs.Rows.{RowPage}
 use Rattle.store_model.specs.Lobs.{lob_of}
 use Rattle.store_model.specs.Steps.{on_lob, on_lobs, without_lob}
 use Rattle.store_parts.specs.Stored.{Stored, with_lobs, pages_of}
-use Rattle.store_parts.specs.Standing.{mark, IsStoreBut}
-use Rattle.store_parts.specs.Shows.{IsWhole, IsStore}
+use Rattle.store_parts.specs.Standing.{mark}
+use Rattle.store_parts.specs.Shows.{IsWhole}
 use Rattle.store_parts.specs.Keeps.{Keeps}
 use Rattle.store_parts.proofs.CountLemmas.{mark_small}
 use Rattle.store_parts.proofs.FrameLemmas.{times-parts}

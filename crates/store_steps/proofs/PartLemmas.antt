@@ -1,5 +1,5 @@
 -- A part of a LOB that goes: its last piece, or the index page that was made last.
-use Rattle.std.proofs.Common.{◌≡◌, ℕ, ◌+◌, ◌≤◌, true, false, List, [], ◌∷◌, ◌++◌, Some, refl, sym, ap, subst, ◌∙◌}
+use Rattle.std.proofs.Common.{◌≡◌, ℕ, true, false, List, [], ◌∷◌, ◌++◌, refl, sym, ap, subst, ◌∙◌}
 use Rattle.page_model.specs.Pages.{Pages, Address}
 use Rattle.store_data.specs.Pieces.{all_but_last}
 use Rattle.store_data.specs.Store.{Version, Piece, Lob, Store}
@@ -11,9 +11,7 @@ use Rattle.lob_bytes.specs.Freeing.{CanFree, FreesPiece, freed_nodes, ended}
 use Rattle.lob_bytes.specs.Frees.{CanGive, GivesIndexPage, GivesFirst}
 use Rattle.undo_model.specs.Rows.{RowPage}
 use Rattle.store_model.specs.Steps.{without_piece, without_index}
-use Rattle.store_model.specs.Undo.{piece_freed, index_freed}
 use Rattle.store_parts.specs.Keeps.{Keeps}
-use Rattle.store_steps.specs.declared.lob.Left.{Left}
 use Rattle.store_steps.specs.declared.lob.Left.TheVariants.{Pieces, Index, Nothing}
 use Rattle.store_steps.specs.Lobs.{left_in, has_part, IsSingle, freed_part, freed_lob, FreesPart}
 use Rattle.store_steps.specs.Standing.{StandsOn}

@@ -1,5 +1,5 @@
 -- What the calls within an event may use, and what they used.
-use Rattle.std.proofs.Common.{ℕ, ◌+◌, ◌≤◌, List, [], ◌∷◌, Option, Result, Ok, Err, OnOk, lit≤}
+use Rattle.std.proofs.Common.{ℕ, ◌+◌, ◌≤◌, [], ◌∷◌, Option, Result, Ok, Err, OnOk, lit≤}
 use Rattle.page_model.specs.Pages.{Pages}
 use Rattle.page_model.specs.Steps.{PageState, MayUse, Uses, Becomes}
 use Rattle.engine_base.specs.declared.fault.Fault.{Fault}

@@ -2,3 +2,4 @@ pub mod Standing
 pub mod Lobs
 pub mod Touched
 pub mod Reached
+pub mod Runs

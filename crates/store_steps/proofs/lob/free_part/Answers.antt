@@ -1,4 +1,4 @@
-use Rattle.std.proofs.Common.{◌≡◌, [], ◌∷◌, sym, ◌∙◌, lit≤}
+use Rattle.std.proofs.Common.{[], ◌∷◌, sym, ◌∙◌, lit≤}
 use Rattle.page_model.proofs.StepLemmas.{uses_more, within_two}
 use Rattle.file_lists.proofs.LinkLemmas.{handed_on}
 use Rattle.lob_index.proofs.AnswerLemmas.{becomes_on}

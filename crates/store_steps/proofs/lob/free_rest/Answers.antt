@@ -1,4 +1,3 @@
-use Rattle.page_model.proofs.CountLemmas.{times_here}
 use Rattle.store_steps.proofs.UseLemmas.{on_told}
 use Rattle.store_steps.proofs.LobLemmas.{lob_at, page_used}
 use Rattle.store_steps.proofs.PartLemmas.{rest_goes}

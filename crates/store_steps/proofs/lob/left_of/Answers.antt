@@ -1,4 +1,4 @@
-use Rattle.std.proofs.Common.{◌≡◌, [], ◌∷◌, length, map, sym, ◌∙◌, lit≤, arith}
+use Rattle.std.proofs.Common.{◌≡◌, [], ◌∷◌, map, ◌∙◌, lit≤, arith}
 use Rattle.page_model.specs.Pages.{field}
 use Rattle.page_model.proofs.StepLemmas.{may_within, within_one}
 use Rattle.file_lists.proofs.LinkLemmas.{at_told}

@@ -1,4 +1,4 @@
-use Rattle.std.proofs.Common.{◌≡◌, ◌≤◌, ℕ, List, Option, Some, None, IfSome, sym}
+use Rattle.std.proofs.Common.{◌≡◌, ◌≤◌, ℕ, List, Option, Some, None, IfSome}
 use Rattle.store_parts.specs.Shows.{touched_from}
 use Rattle.store_steps.specs.Reached.{piece_in}
 use Rattle.store_steps.specs.Touched.{next_touched}

@@ -1,4 +1,4 @@
-use Rattle.std.proofs.Common.{◌≡◌, ◌+◌, ◌-◌, ◌≤◌, ℕ, List, [], ◌∷◌, map, Option, IfOk, IfSome, subst, lit≤, arith}
+use Rattle.std.proofs.Common.{◌≡◌, ◌+◌, ◌-◌, ◌≤◌, ℕ, [], ◌∷◌, map, Option, IfOk, IfSome, subst, lit≤, arith}
 use Rattle.page_model.proofs.StepLemmas.{uses_more, uses_unnamed, within_nil}
 use Rattle.lob_model.specs.Pieces.{head_place}
 use Rattle.lob_index.specs.Heads.{nth}
