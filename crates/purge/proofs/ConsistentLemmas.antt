@@ -1,5 +1,5 @@
 -- A consistent store stays so, whichever event of a purge is made.
-use Rattle.std.proofs.Common.{◌≡◌, ℕ, Bool, true, false, if◌then◌else◌, List, [], ◌∷◌, Option, Some, None, refl, sym, ap, subst, ◌∙◌, arith}
+use Rattle.std.proofs.Common.{◌≡◌, ℕ, Bool, true, false, if◌then◌else◌, List, [], ◌∷◌, Option, Some, None, refl, sym, ap, subst, ◌∙◌}
 use Rattle.page_model.specs.Pages.{Pages, Address}
 use Rattle.store_data.specs.Store.{LogState, active, committed, purging, live, Row, Piece, Lob, Body, inserted, rebuilt, versioned, patched, removed, Record, Log, Store}
 use Rattle.store_model.specs.Lobs.{lob_of, pieces_of}
@@ -7,28 +7,19 @@ use Rattle.store_model.specs.Steps.{last_in}
 use Rattle.store_model.specs.Takes.{piece_of}
 use Rattle.store_model.specs.Events.{with_row_pages}
 use Rattle.store_model.specs.Undo.{version_dropped, record_passed, log_pages_left}
-use Rattle.store_model.specs.Owned.{owned, owned_lobs, IsAmong, AreSound}
-use Rattle.store_model.specs.Held.{HasLobs}
+use Rattle.store_model.specs.Owned.{owned_lobs, IsAmong}
 use Rattle.store_model.specs.Well.{IsKind}
 use Rattle.store_model.specs.Consistent.{IsConsistent}
-use Rattle.store_model.proofs.CountLemmas.{once_different}
 use Rattle.store_model.proofs.HeldLemmas.{first_lobs}
 use Rattle.store_model.proofs.ConsistentLemmas.{drop_consistent, free_consistent, index_consistent, pass_consistent, purged_consistent, begun_consistent, row_pages_consistent, pages_left_consistent}
 use Rattle.store_parts.specs.Stored.{row_pages}
-use Rattle.store_parts.specs.Shows.{IsStore}
-use Rattle.store_parts.proofs.CountLemmas.{mark_small}
-use Rattle.store_pages.proofs.MarkLemmas.{marks_owned}
 use Rattle.row_dir.specs.declared.dir.RowDir.{RowDir}
 use Rattle.store_steps.specs.Touched.{next_touched}
+use Rattle.store_steps.proofs.TakenLemmas.{sound_at}
 use Rattle.purge.specs.Events.{Event, passes, dropping, freeing, freeing_lob, due_for, due_page, due_record, due_in, due, loses_version, version_gone, made}
 use Rattle.purge.specs.Made.{Made, Steps}
 use Rattle.purge.proofs.JobLemmas.{due_is, last_none}
 use Rattle.purge.proofs.OwnedLemmas.{lob_before, among_before}
-
--- the map marks each owned page once
-sound_at : (new : Pages) (store : Store) → IsStore new store → HasLobs store → AreSound store
-sound_at new store is has = once_different (owned store)
-    (λ n. let e = marks_owned new store is has n in let k = mark_small new n in omega (arith, e, k))
 
 last_single : {A : Type 0} (xs : List A) (u : A) (us : List A) → last_in xs ≡ u ∷ us → us ≡ []
 last_single [] u us is = absurd (let e : [] ≡ u ∷ us = is in cc)

@@ -9,4 +9,5 @@ pub mod KindLemmas
 pub mod RecordLemmas
 pub mod JobLemmas
 pub mod ConsistentLemmas
+pub mod NextLemmas
 pub mod TestLemmas

@@ -6,3 +6,4 @@ pub mod Rows
 pub mod Job
 pub mod Kinds
 pub mod Made
+pub mod Next

@@ -12,6 +12,7 @@ ghost use Rattle.purge.specs.Due.{due_entry};
 ghost use Rattle.purge.specs.Events.{due, due_record, behind};
 ghost use Rattle.store_steps.specs.Reached.{piece_in, IsFit};
 ghost use Rattle.purge.specs.Job.{IsHeadIn, AllDue, IsJob};
+ghost use Rattle.purge.specs.Next.{GoesOn};
 ghost use Rattle.purge.specs.Made.{Made, Steps, step_if, step_behind, step_room};
 
 use crate::due::{Due, record_due};
@@ -74,6 +75,11 @@ pub fn purge_step<P: Pages>(
         (ls : List Log) → IsJob (P.state p.old).told job.old there pages store l ls
         → IsDirectory rows.old there → OnOk result (Becomes (P.state p.new).told
         (Steps (due store (piece_in job.old.dropped)) rows.new store)) }
+    ensures again { (there : List RowPage) (pages : Pages) (store : Store) (l : Log)
+        (ls : List Log) → IsJob (P.state p.old).told job.old there pages store l ls
+        → IsDirectory rows.old there → OnOk result (Becomes (P.state p.new).told
+        (GoesOn (P.state p.new).told (due store (piece_in job.old.dropped)) job.new rows.new
+        store l ls)) }
     ensures ends { (there : List RowPage) (pages : Pages) (store : Store) (l : Log)
         (ls : List Log) → IsJob (P.state p.old).told job.old there pages store l ls
         → IsDirectory rows.old there → IfOk result

@@ -14,4 +14,6 @@ mod versions;
 pub use job::{Purging, Step, purge_step};
 
 #[cfg(test)]
+mod log_tests;
+#[cfg(test)]
 mod tests;

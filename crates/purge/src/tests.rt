@@ -16,10 +16,10 @@ use undo_logs::{begin_log, commit};
 const SYSTEM: PageNo = PageNo(0);
 
 // The first page that a new store takes.
-const LOG: PageNo = PageNo(1);
+pub(crate) const LOG: PageNo = PageNo(1);
 
 // Then the LOB takes this one, and its second piece the page behind.
-const LOB: PageNo = PageNo(2);
+pub(crate) const LOB: PageNo = PageNo(2);
 
 #[derive(Clone, Copy)]
 struct Change {
@@ -34,7 +34,7 @@ struct Change {
 
 // Writes a field of the log's first page.
 #[tactic(auto, using(crate::proofs::TestLemmas::ample))]
-fn set(p: &mut MemPages, at: u16, width: u8, value: u64) -> Result<(), Fail> {
+pub(crate) fn set(p: &mut MemPages, at: u16, width: u8, value: u64) -> Result<(), Fail> {
     if p.count() != 16 || at > 1_000 {
         return Err(Fail::from("place"));
     }
@@ -59,7 +59,7 @@ fn free_pages(p: &mut MemPages) -> Result<u64, Fail> {
 
 // A store of 16 pages with a log of transaction 7, and a LOB.
 #[tactic(auto, using(crate::proofs::TestLemmas::ample))]
-fn store(p: &mut MemPages, space: &mut Space) -> Result<(), Fail> {
+pub(crate) fn store(p: &mut MemPages, space: &mut Space) -> Result<(), Fail> {
     if p.count() != 16 {
         return Err(Fail::from("count"));
     }
@@ -67,7 +67,7 @@ fn store(p: &mut MemPages, space: &mut Space) -> Result<(), Fail> {
     if p.count() != 16 {
         return Err(Fail::from("count"));
     }
-    space.reserve(p, 8).ok().ok_or("reserve")?;
+    space.reserve(p, 14).ok().ok_or("reserve")?;
     if p.count() != 16 || space.reserved() == 0 {
         return Err(Fail::from("reserved"));
     }
@@ -80,7 +80,7 @@ fn store(p: &mut MemPages, space: &mut Space) -> Result<(), Fail> {
 }
 
 #[tactic(auto, using(crate::proofs::TestLemmas::ample))]
-fn add(p: &mut MemPages, space: &mut Space) -> Result<(), Fail> {
+pub(crate) fn add(p: &mut MemPages, space: &mut Space) -> Result<(), Fail> {
     if p.count() != 16 {
         return Err(Fail::from("count"));
     }
@@ -143,7 +143,7 @@ fn step(
 }
 
 // Makes events, each of which is to be answered so.
-fn run(
+pub(crate) fn run(
     p: &mut MemPages,
     space: &mut Space,
     job: &mut Purging,

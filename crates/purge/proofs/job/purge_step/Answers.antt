@@ -1,4 +1,4 @@
-use Rattle.std.proofs.Common.{[], ◌∷◌, sym, ap, ◌∙◌, lit≤}
+use Rattle.std.proofs.Common.{[], ◌∷◌, refl, sym, ap, ◌∙◌, lit≤}
 use Rattle.page_model.proofs.StepLemmas.{may_less, may_within, uses_at_most, uses_more, uses_within, within_one}
 use Rattle.file_lists.proofs.LinkLemmas.{handed_on}
 use Rattle.lob_index.proofs.AnswerLemmas.{becomes_on, if_ok, on_ok}
@@ -10,6 +10,8 @@ use Rattle.purge.specs.Made.{step_behind}
 use Rattle.purge.proofs.LogLemmas.{at_first, page_is, state_is, on_told}
 use Rattle.purge.proofs.ConsistentLemmas.{steps}
 use Rattle.purge.proofs.JobLemmas.{begun_is, not_begun, due_is, job_next, begin_made, made_on, none_kept}
+use Rattle.engine_base.specs.declared.ids.PageNo.{PageNo}
+use Rattle.purge.proofs.NextLemmas.{goes_on_from, goes_on_by}
 use Rattle.purge.proofs.job.purge_step.Goals as goal
 
 pub purge_begun-requires-clause-may : goal.purge_begun-requires-clause-may
@@ -220,3 +222,45 @@ returns-clause-head g c = λ there pages store l ls j.
     let last = c.in_ok-due.ensures.value there pages store l ls k.at in
     let k' = job_next _ _ c.args.job.now there pages store l ls k c.record_due.ensures.told in
     c.go_on.ensures.head there pages store l ls k' last
+
+pub returns-then-not-branch-clause-again : goal.returns-then-not-branch-clause-again
+returns-then-not-branch-clause-again g c = λ there pages store l ls j dir.
+    let log = c.args.job.now.log.0 in
+    let at = j.at in
+    let f = at_first _ log there pages store l ls at in
+    let read = c.in_ok-purge_begun.ensures.value f.log (page_is _ log there pages store l ls at) pages
+    at.told' f.stands in
+    let state = not_begun f.log.state f.state (sym read ∙ c.if-not-branch.true) in
+    let is = sym (state_is _ log there pages store l ls at) ∙ state in
+    let k = job_next _ _ c.args.job.now there pages store l ls j c.purge_begun.ensures.told in
+    let last = piece_in c.args.job.now.dropped in
+    let e = due_is store last l ls committed at.first is in
+    let b = c.in_ok-begin.ensures.begins there pages store l ls k.at is in (
+      b.0,
+      b.1,
+      goes_on_from _ _ c.args.job.now _ there pages store l ls j _ b.0 b.1 refl
+          (none_kept store.lobs (last_in l.records)) last (ap behind (sym e))
+          (made_on _ _ _ store b.0 e (begin_made _ store there b.0 b.2 dir)),
+    )
+
+pub returns-clause-again : goal.returns-clause-again
+returns-clause-again g c = λ there pages store l ls j dir.
+    let log = c.args.job.now.log.0 in
+    let at = j.at in
+    let f = at_first _ log there pages store l ls at in
+    let read = c.in_ok-purge_begun.ensures.value f.log (page_is _ log there pages store l ls at) pages
+    at.told' f.stands in
+    let begun = sym (state_is _ log there pages store l ls at)
+    ∙ begun_is f.log.state (sym read ∙ c.if-not-branch.false) in
+    let k = job_next _ _ c.args.job.now there pages store l ls j c.purge_begun.ensures.told in
+    let oldest = c.in_ok-due.ensures.value there pages store l ls k.at in
+    let k' = job_next _ _ c.args.job.now there pages store l ls k c.record_due.ensures.told in
+    let last = piece_in c.args.job.now.dropped in
+    let e = due_is store last l ls purging at.first begun in
+    goes_on_by _ _ c.args.job.now _ there pages store l ls j _ last c.go_on.result
+    (sym (ap (λ (n : PageNo). n.0) c.go_on.ensures.log))
+    (c.go_on.ensures.head there pages store l ls k' oldest)
+    (on_ok _ _ c.go_on.result (λ is. is ∙ ap behind (sym e))
+    (c.go_on.ensures.comes there pages store l ls k' begun oldest dir))
+    (on_told c.go_on.result _ _ _ (λ new m. made_on _ _ _ store new e m)
+    (c.go_on.ensures.makes there pages store l ls k' begun oldest dir))

@@ -8,7 +8,8 @@ use Rattle.store_data.specs.Store.{Version}
 use Rattle.lob_model.specs.Changes.{piece}
 use Rattle.lob_versions.specs.Versions.{HasPiece, LosesVersion}
 use Rattle.store_steps.proofs.LobLemmas.{lob_at}
-use Rattle.purge.proofs.VersionLemmas.{cut_at, ends, has_piece, version_goes, version_stays, none_stays, newer_stays}
+use Rattle.store_steps.proofs.CutLemmas.{cut_at}
+use Rattle.purge.proofs.VersionLemmas.{ends, has_piece, version_goes, version_stays, none_stays, newer_stays}
 use Rattle.purge.proofs.versions.drop_version.Goals as goal
 
 pub returns-in_err-drop_oldest-clause-never : goal.returns-in_err-drop_oldest-clause-never
