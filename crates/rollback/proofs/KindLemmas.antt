@@ -2,6 +2,7 @@
 use Rattle.std.proofs.Common.{◌≡◌, ℕ, Result, Ok, Err, IfOk, OnOk, Bool, true, false, List, [], ◌∷◌, Option, Some, None, refl, sym, ap, subst, ◌∙◌}
 use Rattle.page_model.specs.Pages.{Pages, Address}
 use Rattle.engine_base.specs.declared.fault.Fault.{Fault}
+use Rattle.store_data.specs.Pieces.{all_but_last}
 use Rattle.store_data.specs.Store.{Row, Run, Record, Piece, Lob, Body, inserted, rebuilt, versioned, patched, removed, Store}
 use Rattle.store_model.specs.Lobs.{lob_of}
 use Rattle.store_model.specs.Keeps.{Makes}
@@ -12,7 +13,8 @@ use Rattle.store_model.specs.Undo.{restored, unmade}
 use Rattle.store_parts.specs.Stored.{row_pages}
 use Rattle.row_dir.specs.declared.dir.RowDir.{RowDir}
 use Rattle.row_dir.specs.Directory.{IsDirectory}
-use Rattle.store_steps.specs.Lobs.{has_part, freed_part, FreesPart}
+use Rattle.undo_model.proofs.OptionLemmas.{some_some}
+use Rattle.store_steps.specs.Lobs.{has_part, freed_part, freed_lob, IsSingle, FreesPart}
 use Rattle.store_steps.specs.Standing.{StandsOn}
 use Rattle.engine_base.specs.Addresses.{address_of}
 use Rattle.read_views.specs.declared.flight.Flight.{Flight}
@@ -62,6 +64,7 @@ ended_made s mid f dir new same e = record {
       (log_left s.rest s.trx e.log_pages (restored s.undo.doc s.undo.before
       (record_out s.trx (on_lobs (λ _. ls) s.store)))))) same e.stands;
   directory = e.directory;
+  bare = tt;
 }
 
 -- ---- a LOB that the record made
@@ -82,12 +85,21 @@ none_left (p ∷ more) is e = absurd (let x : false ≡ true = e in cc)
 part_of_lob : (s : Scene) (page : ℕ) (m : Lob) (ps : List Piece) (index : List ℕ) (free : List Address)
     (dir : RowDir) (new : Pages) → true ≡ has_part ps index → IsDirectory dir s.there
     → StandsOn s.there new (freed_part page free ps index s.store)
+    → lob_of s.store.lobs page ≡ Some m → IsSingle (freed_lob free ps index m)
     → Made (freeing page ps index) s dir new
-part_of_lob s page m [] [] free dir new some is on = absurd (let x : true ≡ false = some in cc)
-part_of_lob s page m [] (i ∷ more) free dir new some is on =
-    record { free = free; log_pages = []; there = s.there; stands = on; directory = is }
-part_of_lob s page m (p ∷ ps) index free dir new some is on =
-    record { free = free; log_pages = []; there = s.there; stands = on; directory = is }
+part_of_lob s page m [] [] free dir new some is on found single =
+    absurd (let x : true ≡ false = some in cc)
+part_of_lob s page m [] (i ∷ more) free dir new some is on found single =
+    record { free = free; log_pages = []; there = s.there; stands = on; directory = is; bare = tt }
+part_of_lob s page m (p ∷ ps) index free dir new some is on found single = record {
+  free = free;
+  log_pages = [];
+  there = s.there;
+  stands = on;
+  directory = is;
+  bare = λ l here none. single.bare
+      (ap (λ (x : Lob). all_but_last x.pieces) (some_some m l (sym found ∙ here)) ∙ none);
+}
 
 module _ (s : Scene) (page : ℕ) (m : Lob) (found : lob_of s.store.lobs page ≡ Some m) where
   -- a part of it goes
@@ -96,7 +108,7 @@ module _ (s : Scene) (page : ℕ) (m : Lob) (found : lob_of s.store.lobs page �
       → Made (freeing_lob page (lob_of s.store.lobs page)) s dir new
   part_made dir new some is gone =
       subst (λ (o : Option Lob). Made (freeing_lob page o) s dir new) (sym found)
-      (part_of_lob s page m m.pieces m.index gone.free dir new some is gone.stands)
+      (part_of_lob s page m m.pieces m.index gone.free dir new some is gone.stands found gone.single)
 
   pub part_left : true ≡ has_part m.pieces m.index
       → true ≡ goes_on (freeing_lob page (lob_of s.store.lobs page)) s
@@ -195,6 +207,7 @@ popped_made s page v k o dir new same same' is there p =
       stands = subst (λ (n : ℕ). StandsOn s.there new (version_gone s.undo.before.lob.page k n p.0 s.store)) same'
           (subst (λ (n : ℕ). StandsOn s.there new (version_gone n k v p.0 s.store)) same p.1);
       directory = there;
+      bare = tt;
     })
 
 pub turned_popped : (s : Scene) (page v k : ℕ) (o : Option ℕ) (fs gs : List Flight)
@@ -228,4 +241,5 @@ ended_removed s dir new body e = record {
       (log_left s.rest s.trx e.log_pages (restored s.undo.doc s.undo.before
       (record_out s.trx (on_lobs (λ ls. unmade b s.undo.before ls) s.store)))))) (sym body) e.stands;
   directory = e.directory;
+  bare = tt;
 }

@@ -1,6 +1,6 @@
 -- The record that was read, by its kind.
 use Rattle.std.proofs.Common.{◌≡◌, ◌<◌, ◌≤◌, ℕ, List, [], ◌∷◌, Option, Some, None, Result, Ok, Err, IfOk, refl, ap, sym, subst, ◌∙◌, lit≤, arith}
-use Rattle.page_model.specs.Pages.{AreWhole}
+use Rattle.page_model.specs.Pages.{Pages, AreWhole}
 use Rattle.page_model.specs.Steps.{PageState, Uses}
 use Rattle.page_model.proofs.StepLemmas.{uses_unnamed, uses_at_most}
 use Rattle.store_data.specs.Store.{Body, Record, Lob}
@@ -23,8 +23,19 @@ use Rattle.rollback.specs.Ends.{IsNewest}
 use Rattle.rollback.specs.Events.{Event, ends, due_for}
 use Rattle.rollback.specs.Flights.{AreTurned, handed}
 use Rattle.rollback.specs.Made.{event_for, event_turn}
-use Rattle.rollback.specs.Standing.{Scene}
+use Rattle.rollback.specs.Standing.{Scene, IsAt}
 use Rattle.rollback.proofs.KindLemmas.{turned_ended}
+
+-- the scene behind a read
+pub at_same : (told now : Option Pages) (first : ℕ) (s : Scene) → IsAt told first s → now ≡ told
+    → IsAt now first s
+at_same told now first s at same = record {
+  told' = same ∙ at.told';
+  stands = at.stands;
+  found = at.found;
+  page = at.page;
+  records = at.records;
+}
 
 -- the body of the scene's record is that of the one that was read
 pub body_is : (n : Newest) (s : Scene) (b : BodyThere) → IsNewest n s → n.rec.body ≡ b → s.undo.body ≡ shown_body (body_of b)

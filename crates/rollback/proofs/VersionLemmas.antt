@@ -1,5 +1,5 @@
 -- The newest version of a piece goes.
-use Rattle.std.proofs.Common.{◌≡◌, ◌≢◌, ℕ, zero, suc, ◌+◌, ◌==◌, Bool, true, false, if◌then◌else◌, List, [], ◌∷◌, ◌++◌, length, map, Option, Some, refl, sym, ap, subst, ◌∙◌}
+use Rattle.std.proofs.Common.{◌≡◌, ◌≢◌, ℕ, suc, ◌+◌, ◌==◌, Bool, true, false, if◌then◌else◌, List, [], ◌∷◌, ◌++◌, Option, Some, refl, sym, ap, subst, ◌∙◌}
 use Rattle.std.proofs.lemmas.Bool.{eq-eqb, ne_eqb}
 use Rattle.page_model.specs.Pages.{Pages, Address, field}
 use Rattle.lob_pages.specs.declared.entry.Entry.{Entry}
@@ -9,8 +9,7 @@ use Rattle.store_data.specs.Pieces.{popped}
 use Rattle.store_data.specs.Store.{Version, Piece, Lob, Store}
 use Rattle.lob_model.specs.Changes.{with_pieces}
 use Rattle.lob_model.specs.Lobs.{IsLob, IsVersion, AreVersions, lob_pages}
-use Rattle.lob_model.specs.Pieces.{head_place, versions}
-use Rattle.lob_index.specs.Heads.{nth}
+use Rattle.lob_model.specs.Pieces.{versions}
 use Rattle.lob_index.specs.Use.{AreUsed}
 use Rattle.lob_versions.specs.Versions.{HasPiece, LosesVersion}
 use Rattle.undo_model.specs.Rows.{RowPage}
@@ -24,51 +23,10 @@ use Rattle.read_model.specs.Flight.{Flight as Read}
 use Rattle.read_views.specs.declared.flight.Flight.{Flight}
 use Rattle.read_views.specs.Flights.{flight_of}
 use Rattle.store_steps.specs.Standing.{StandsOn}
+use Rattle.store_steps.proofs.CutLemmas.{Cut}
 use Rattle.store_steps.proofs.LobLemmas.{LobAt}
 use Rattle.rollback.specs.Flights.{AreTurned, led_on}
 use Rattle.rollback.specs.Versions.{is_raised, piece_at, turned_by, led_in, pop_turn, PopsVersion}
-
--- ---- the piece with a head
-
-pub record Cut (k : ℕ) (ps : List Piece) (head : Address) : Type 0 where
-  pub bs : List Piece
-  pub p : Piece
-  pub cs : List Piece
-  pub is : ps ≡ bs ++ p ∷ cs
-  pub many : length bs ≡ k
-  pub here : p.head.place ≡ head
-  pub there : piece_of k ps ≡ Some p
-
-same_some : (a b : Address) → Some a ≡ Some b → a ≡ b
-same_some a b e = cc e
-
-no_head : (k : ℕ) (a : Address) → Some a ≡ nth k [] → ⊥
-no_head zero a e = cc
-no_head (suc k) a e = cc
-
-pub cut_at : (k : ℕ) (ps : List Piece) (head : Address) → Some head ≡ nth k (map head_place ps)
-    → Cut k ps head
-cut_at k [] head is = absurd (no_head k head is)
-cut_at zero (p ∷ ps) head is = record {
-  bs = [];
-  p = p;
-  cs = ps;
-  is = refl;
-  many = refl;
-  here = sym (same_some head p.head.place is);
-  there = refl;
-}
-cut_at (suc k) (p ∷ ps) head is =
-    let r = cut_at k ps head is in
-    record {
-      bs = p ∷ r.bs;
-      p = r.p;
-      cs = r.cs;
-      is = ap (λ (qs : List Piece). p ∷ qs) r.is;
-      many = ap suc r.many;
-      here = r.here;
-      there = r.there;
-    }
 
 -- ---- its newest version
 

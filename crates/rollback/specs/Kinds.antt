@@ -18,7 +18,7 @@ use Rattle.store_steps.specs.Reached.{piece_in, IsHeadAt, AreBelow}
 use Rattle.store_steps.specs.Touched.{next_touched}
 use Rattle.rollback.specs.Versions.{CanPop}
 use Rattle.rollback.specs.Standing.{Scene}
-use Rattle.rollback.specs.Runs.{run_pages}
+use Rattle.store_steps.specs.Runs.{run_pages}
 
 pub record CanFree (page : ℕ) (s : Scene) : Type 0 where
   pub makes : Makes page s.undo.body

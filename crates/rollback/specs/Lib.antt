@@ -2,9 +2,10 @@ pub mod Standing
 pub mod Flights
 pub mod Records
 pub mod Rows
-pub mod Runs
 pub mod Versions
 pub mod Ends
 pub mod Events
 pub mod Made
 pub mod Kinds
+pub mod Undoable
+pub mod Next

@@ -4,12 +4,16 @@
 --     goes_on e s      whether an event is left behind it
 --     event_turn e s      what it makes of a read under way
 --     Made e s dir      the pages are that store, and the directory is that of its rows
+--     Steps e s dir      and that store is consistent
 --     behind e      the touched piece whose version went last, behind the event
 --     step_behind e s      what is answered
-use Rattle.std.specs.Prelude.{ℕ, Bool, true, false, List, Option, Some, None}
+use Rattle.std.specs.Prelude.{◌≡◌, ℕ, Bool, true, false, List, [], Option, Some, None}
 use Rattle.page_model.specs.Pages.{Pages, Address}
-use Rattle.store_data.specs.Store.{Store}
+use Rattle.store_data.specs.Pieces.{all_but_last}
+use Rattle.store_data.specs.Store.{Lob, Store}
 use Rattle.undo_model.specs.Rows.{RowPage}
+use Rattle.store_model.specs.Consistent.{IsConsistent}
+use Rattle.store_model.specs.Lobs.{lob_of}
 use Rattle.store_model.specs.Events.{with_row_pages}
 use Rattle.store_model.specs.Undo.{piece_freed, index_freed, undo_ended}
 use Rattle.store_parts.specs.Stored.{row_pages}
@@ -49,12 +53,27 @@ event_turn (frees_index page) s f = flight_of f
 event_turn (pops page k v) s f = pop_turn page k v s.store f
 event_turn ends s f = handed s.place s.undo f
 
+-- behind the last piece of a LOB that goes no node of it is free
+abbrev pub IsBare : Event → List Address → List Lob → Type 0
+IsBare (frees page) free lobs =
+    (l : Lob) → lob_of lobs page ≡ Some l → all_but_last l.pieces ≡ [] → free ≡ []
+IsBare (frees_index page) free lobs = Unit {0}
+IsBare (pops page k v) free lobs = Unit {0}
+IsBare ends free lobs = Unit {0}
+
 pub record Made (e : Event) (s : Scene) (dir : RowDir) (new : Pages) : Type 0 where
   pub free : List Address
   pub log_pages : List ℕ
   pub there : List RowPage
   pub stands : StandsOn there new (made e s free log_pages (row_pages there))
   pub directory : IsDirectory dir there
+  pub bare : IsBare e free s.store.lobs
+
+-- and the store that it makes is consistent
+pub record Steps (e : Event) (s : Scene) (dir : RowDir) (new : Pages) : Type 0 where
+  pub made' : Made e s dir new
+  pub consistent : IsConsistent
+      (made e s made'.free made'.log_pages (row_pages made'.there))
 
 -- the touched piece whose version went last, behind the event
 abbrev pub behind : Event → Option ℕ

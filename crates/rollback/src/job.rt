@@ -3,12 +3,14 @@ ghost use Rattle.std.specs.Prelude.{◌≡◌, ◌+◌, ◌<◌, [], ◌∷◌, 
 ghost use Rattle.page_model.specs.Steps.{MayUse, Uses, Becomes};
 ghost use Rattle.engine_base.specs.Faults.{HasCause, FailsPlainly};
 ghost use Rattle.page_space.specs.Map.{IsSize};
+ghost use Rattle.store_model.specs.Consistent.{IsConsistent};
 ghost use Rattle.row_dir.specs.Directory.{IsDirectory, IsBelow};
 ghost use Rattle.store_steps.specs.Reached.{piece_in, IsFit};
 ghost use Rattle.rollback.specs.Ends.{CanEnd};
 ghost use Rattle.rollback.specs.Flights.{AreTurned};
 ghost use Rattle.rollback.specs.Kinds.{CanUndo, IsHeadIn, patched_room};
-ghost use Rattle.rollback.specs.Made.{Made, event_for, event_turn, step_if, step_behind, behind};
+ghost use Rattle.rollback.specs.Made.{Made, Steps, event_for, event_turn, step_if, step_behind, behind};
+ghost use Rattle.rollback.specs.Next.{IsUndoing, GoesOn};
 ghost use Rattle.rollback.specs.Standing.{Scene, IsAt};
 
 use crate::newest::newest_record;
@@ -72,6 +74,13 @@ pub fn undo_step<P: Pages>(
         → IsDirectory rows.old s.there → CanEnd s → CanUndo job.old.reached s
         → OnOk result (Becomes (P.state p.new).told
         (Made (event_for s (piece_in job.old.reached)) s rows.new)) }
+    ensures stays { (s : Scene) → IsAt (P.state p.old).told job.old.log.0 s
+        → IsDirectory rows.old s.there → IsConsistent s.store → CanUndo job.old.reached s
+        → OnOk result (Becomes (P.state p.new).told
+        (Steps (event_for s (piece_in job.old.reached)) s rows.new)) }
+    ensures again { (s : Scene) → IsUndoing (P.state p.old).told job.old s
+        → IsDirectory rows.old s.there → OnOk result (Becomes (P.state p.new).told
+        (GoesOn (P.state p.new).told (event_for s (piece_in job.old.reached)) job.new s rows.new)) }
     ensures step { (s : Scene) → IsAt (P.state p.old).told job.old.log.0 s
         → CanUndo job.old.reached s
         → IfOk result (λ r. r ≡ step_behind (event_for s (piece_in job.old.reached)) s) }

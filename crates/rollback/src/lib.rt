@@ -5,6 +5,7 @@ mod ending;
 mod flights;
 mod job;
 mod kinds;
+mod laws;
 mod newest;
 mod popping;
 mod raised;
@@ -14,6 +15,9 @@ mod runs;
 mod versions;
 
 pub use job::{Step, Undoing, undo_step};
+pub use laws::{changes_stay_undoable, record_may_end, undoing_begins};
 
+#[cfg(test)]
+mod log_tests;
 #[cfg(test)]
 mod tests;

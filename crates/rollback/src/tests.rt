@@ -19,7 +19,7 @@ use undo_records::{RollPtr, Row, RowState};
 const SYSTEM: PageNo = PageNo(0);
 
 // The first page that a new store takes.
-const LOG: PageNo = PageNo(1);
+pub(crate) const LOG: PageNo = PageNo(1);
 
 // Then the LOB takes this one, its second piece the page behind, and the row the one behind that.
 const LOB: PageNo = PageNo(2);
@@ -69,14 +69,20 @@ const REMOVED: Change = Change {
 };
 
 #[tactic(auto, using(crate::proofs::TestLemmas::ample))]
-fn set(p: &mut MemPages, at: u16, width: u8, value: u64) -> Result<(), Fail> {
-    if p.count() != 16 || at > 1_000 {
+pub(crate) fn set(
+    p: &mut MemPages,
+    page: PageNo,
+    at: u16,
+    width: u8,
+    value: u64,
+) -> Result<(), Fail> {
+    if p.count() != 16 || page.0 >= 16 || at > 1_000 {
         return Err(Fail::from("place"));
     }
     let written = match width {
-        1 if value < 0x100 => write_field(p, LOG, at, 1, value),
-        2 if value < 0x1_0000 => write_field(p, LOG, at, 2, value),
-        4 if value < 0x1_0000_0000 => write_field(p, LOG, at, 4, value),
+        1 if value < 0x100 => write_field(p, page, at, 1, value),
+        2 if value < 0x1_0000 => write_field(p, page, at, 2, value),
+        4 if value < 0x1_0000_0000 => write_field(p, page, at, 4, value),
         _ => return Err(Fail::from("width")),
     };
     written.ok().ok_or("set")?;
@@ -94,7 +100,7 @@ fn free_pages(p: &mut MemPages) -> Result<u64, Fail> {
 
 // A store of 16 pages with a log of transaction 7, and a LOB.
 #[tactic(auto, using(crate::proofs::TestLemmas::ample))]
-fn store(p: &mut MemPages, space: &mut Space) -> Result<(), Fail> {
+pub(crate) fn store(p: &mut MemPages, space: &mut Space) -> Result<(), Fail> {
     if p.count() != 16 {
         return Err(Fail::from("count"));
     }
@@ -102,7 +108,7 @@ fn store(p: &mut MemPages, space: &mut Space) -> Result<(), Fail> {
     if p.count() != 16 {
         return Err(Fail::from("count"));
     }
-    space.reserve(p, 8).ok().ok_or("reserve")?;
+    space.reserve(p, 14).ok().ok_or("reserve")?;
     if p.count() != 16 || space.reserved() == 0 {
         return Err(Fail::from("reserved"));
     }
@@ -115,7 +121,7 @@ fn store(p: &mut MemPages, space: &mut Space) -> Result<(), Fail> {
 }
 
 #[tactic(auto, using(crate::proofs::TestLemmas::ample))]
-fn add(p: &mut MemPages, space: &mut Space) -> Result<(), Fail> {
+pub(crate) fn add(p: &mut MemPages, space: &mut Space) -> Result<(), Fail> {
     if p.count() != 16 {
         return Err(Fail::from("count"));
     }
@@ -145,7 +151,7 @@ fn row_behind() -> Row
 }
 
 #[tactic(auto, using(crate::proofs::TestLemmas::ample, crate::proofs::TestLemmas::below, crate::proofs::TestLemmas::below_again))]
-fn put_row(p: &mut MemPages, space: &mut Space, dir: &mut RowDir) -> Result<(), Fail>
+pub(crate) fn put_row(p: &mut MemPages, space: &mut Space, dir: &mut RowDir) -> Result<(), Fail>
     requires below { IsBelow 16 dir.old }
     ensures below { IsBelow 16 dir.new }
 {
@@ -190,7 +196,7 @@ fn write_record(p: &mut MemPages, change: Change) -> Result<(), Fail> {
         (148, 4, 31_360 * live),
         (152, 4, 0xffff_ffff),
     ] {
-        set(p, at, width, value)?;
+        set(p, LOG, at, width, value)?;
     }
     if p.count() != 16 || change.body.len() > 100 {
         return Err(Fail::from("count"));
@@ -224,7 +230,7 @@ fn step(
 }
 
 // Makes events, each of which is to be answered so.
-fn run(
+pub(crate) fn run(
     p: &mut MemPages,
     space: &mut Space,
     rows: &mut RowDir,
@@ -232,6 +238,7 @@ fn run(
     events: &[(Step, u64)],
 ) -> Result<(), Fail>
     requires below { IsBelow 16 rows.old }
+    ensures below { IsBelow 16 rows.new }
 {
     let mut job = Undoing::start(LOG);
     'events: for event in events {

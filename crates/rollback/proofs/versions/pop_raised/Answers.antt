@@ -9,7 +9,8 @@ use Rattle.lob_versions.specs.Versions.{HasPiece, LosesVersion}
 use Rattle.store_data.specs.Store.{Version}
 use Rattle.store_data.specs.Pieces.{popped}
 use Rattle.store_steps.proofs.LobLemmas.{lob_at}
-use Rattle.rollback.proofs.VersionLemmas.{cut_at, has_piece, has_older, number_read, version_goes, version_stays, reads_turn, reads_stay}
+use Rattle.store_steps.proofs.CutLemmas.{cut_at}
+use Rattle.rollback.proofs.VersionLemmas.{has_piece, has_older, number_read, version_goes, version_stays, reads_turn, reads_stay}
 use Rattle.rollback.proofs.versions.pop_raised.Goals as goal
 
 pub returns-then-from-clause-pops : goal.returns-then-from-clause-pops

@@ -1,5 +1,0 @@
-use Rattle.std.proofs.Common.{length}
-use Rattle.rollback.proofs.runs.+is_on.Given as goal
-
-abbrev pub decreases-is_on : goal.decreases-is_on
-decreases-is_on l = length l.runs.now

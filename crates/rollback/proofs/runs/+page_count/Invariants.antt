@@ -1,5 +1,0 @@
-use Rattle.std.proofs.Common.{length}
-use Rattle.rollback.proofs.runs.+page_count.Given as goal
-
-abbrev pub decreases-page_count : goal.decreases-page_count
-decreases-page_count l = length l.runs.now
