@@ -9,11 +9,11 @@ mod limits;
 
 pub use codec::decoder::{decode, decode_value};
 pub use codec::encoder::encode;
-pub use codec::numbers::push_word;
+pub use codec::numbers::{push_fill, push_word};
 pub use codec::parts::{Spelled, entry_bytes, value_bytes};
 pub use cursor::containers::{child, container_in, member, root};
 pub use cursor::equal::equals;
-pub use cursor::layout::{Form, Kind, Width};
+pub use cursor::layout::{Form, Kind, Width, eight_at};
 pub use cursor::nesting::nests;
 pub use cursor::place::{Container, Spot};
 pub use cursor::scalars::text_range;
