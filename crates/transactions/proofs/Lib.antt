@@ -1,0 +1,10 @@
+pub mod StandLemmas
+pub mod BeginLemmas
+pub mod CommitLemmas
+pub mod PointerLemmas
+pub mod PlaceLemmas
+pub mod AppendLemmas
+pub mod ChangeLemmas
+pub mod UseLemmas
+pub mod TestLemmas
+pub mod PlanLemmas
