@@ -1,0 +1,5 @@
+pub mod Plans
+pub mod Pushes
+pub mod Raises
+pub mod Patches
+pub mod Reads
