@@ -9,7 +9,6 @@ use Rattle.binary_model.specs.Layout as layout
 use Rattle.binary_model.specs.Stands.{IsValue, Stands}
 use Rattle.binary_model.specs.Canonical.{spelling}
 use Rattle.binary_model.specs.Change.{SetsTrees, position_of, positions, at_holder, with_value, Progress, step, replaced_by, progress, runs}
-use Rattle.binary_model.proofs.in_place.AgreeLemmas.{some_is}
 use Rattle.binary_model.proofs.in_place.LiftLemmas.{Reaches}
 use Rattle.binary_model.proofs.in_place.PositionLemmas.{put_at, set_positions, replace_positions}
 use Rattle.json_binary.specs.Place.{container_of}
@@ -18,8 +17,8 @@ use Rattle.json_patch.specs.declared.parts.Parts.{Parts as Changed}
 use Rattle.json_patch.specs.View.{runs_of}
 use Rattle.json_patch.specs.declared.lead.Place.{Place}
 use Rattle.json_patch.specs.declared.writes.Write.{Write}
-use Rattle.json_patch.specs.declared.pair.Made.TheVariants.{Kept, Written, Anew}
-use Rattle.json_patch.specs.Writes.{put_writes, AreWrites, AreWritesFor}
+use Rattle.json_patch.specs.declared.pair.Made.TheVariants.{Kept, Anew}
+use Rattle.json_patch.specs.Writes.{put_writes, AreWrites}
 use Rattle.json_patch.specs.Led.{ActsThere}
 use Rattle.json_patch.specs.Touched.{weight, DifferWithin}
 use Rattle.json_patch.specs.Made.{edit_by, act_by, in_place, StandFor, Makes, Puts, putting}
@@ -31,11 +30,13 @@ use Rattle.json_patch.proofs.WithinLemmas.{within_put}
 
 -- ---- one pair's edit, adding or not
 
-put_positions : (adding : Bool) (path : Path) (v u : Tree) (ks : List ℕ) → IsTree u → positions path u ≡ Some ks → (act_by adding path v u ≡ put_at ks v u) × Reaches ks u
+-- a pair puts its value at the positions
+pub put_positions : (adding : Bool) (path : Path) (v u : Tree) (ks : List ℕ) → IsTree u → positions path u ≡ Some ks → (act_by adding path v u ≡ put_at ks v u) × Reaches ks u
 put_positions true path v u ks is e = set_positions path v u ks is e
 put_positions false path v u ks is e = replace_positions path v u ks is e
 
-one_pair : (adding : Bool) (path : Path) (v : Tree) (p : Progress) → progress (edit_by adding ((path, v) ∷ [])) p ≡ replaced_by (act_by adding) path v p
+-- the definition by one pair
+pub one_pair : (adding : Bool) (path : Path) (v : Tree) (p : Progress) → progress (edit_by adding ((path, v) ∷ [])) p ≡ replaced_by (act_by adding) path v p
 one_pair true path v p = refl
 one_pair false path v p = refl
 

@@ -1,8 +1,8 @@
 -- A path that is followed leg by leg: the legs left do from the value reached what the whole path does from the root.
-use Rattle.std.proofs.Common.{◌≡◌, ℕ, Bool, true, false, true≢false, List, [], ◌∷◌, ◌++◌, append-nil, Option, Some, None, is_some, option_map, option_and_then, refl, sym, ap, subst, ◌∙◌, cond, inl, inr}
+use Rattle.std.proofs.Common.{◌≡◌, ℕ, Bool, true, false, List, [], ◌∷◌, ◌++◌, append-nil, Option, Some, None, is_some, option_map, option_and_then, refl, sym, ap, subst, ◌∙◌, inl, inr}
 use Rattle.std.proofs.lemmas.List.{append_assoc}
-use Rattle.tree_model.specs.Tree.{Tree, null, boolean, number, text, array, object, Trees, tree_list, Members, get, without, IsTree}
-use Rattle.tree_model.specs.Path.{Leg, key, cell, last, Path, from_end, child as tree_child, with_child}
+use Rattle.tree_model.specs.Tree.{Tree, null, boolean, number, text, array, object, IsTree}
+use Rattle.tree_model.specs.Path.{Leg, key, cell, last, Path, child as tree_child, with_child}
 use Rattle.tree_model.specs.Edit.{at_parent, altered, added, set_at, taken_out, try_remove}
 use Rattle.binary_model.specs.Layout as layout
 use Rattle.binary_model.specs.Layout.{container_at, child}
@@ -11,7 +11,7 @@ use Rattle.binary_model.specs.Change.{position_of, positions, at_holder}
 use Rattle.binary_model.proofs.in_place.PositionLemmas.{leg_step, step_is}
 use Rattle.json_binary.specs.declared.cursor.place.Spot.{Spot}
 use Rattle.json_binary.specs.declared.cursor.place.Container.{Container}
-use Rattle.json_binary.specs.Place.{container_of, spot_of}
+use Rattle.json_binary.specs.Place.{spot_of}
 use Rattle.json_patch.specs.declared.lead.Place.{Place}
 use Rattle.json_patch.specs.declared.lead.End.{End}
 use Rattle.json_patch.specs.declared.lead.End.TheVariants as end

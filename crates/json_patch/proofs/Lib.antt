@@ -14,3 +14,4 @@ pub mod SingleLemmas
 pub mod WithinLemmas
 pub mod DraftLemmas
 pub mod RestoredLemmas
+pub mod SplicedLemmas

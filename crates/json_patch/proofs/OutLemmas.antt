@@ -1,6 +1,6 @@
 -- A tree that a removal takes something out of is lighter and no deeper; one that a set adds a value to is heavier.
-use Rattle.std.proofs.Common.{◌≡◌, ℕ, ◌≤◌, ◌<◌, zero, suc, max, Bool, true, false, true≢false, List, [], ◌∷◌, ◌++◌, length, slice_get, Option, Some, None, is_some, option_map, option_and_then, refl, sym, ap, subst, ◌∙◌, arith, cond, inl, inr}
-use Rattle.tree_model.specs.Tree.{Tree, null, boolean, number, text, array, object, Trees, no_trees, tree, tree_list, trees, Members, no_members, member, get, put, without, depth, trees_depth, members_depth, IsTree}
+use Rattle.std.proofs.Common.{◌≡◌, ℕ, ◌≤◌, ◌<◌, zero, suc, max, true≢false, List, [], ◌∷◌, ◌++◌, length, slice_get, Option, Some, None, is_some, option_map, option_and_then, refl, sym, ap, subst, ◌∙◌, arith, cond, inl, inr}
+use Rattle.tree_model.specs.Tree.{Tree, null, boolean, number, text, array, object, Trees, no_trees, tree, tree_list, Members, no_members, member, without, depth, trees_depth, members_depth, IsTree}
 use Rattle.tree_model.specs.Path.{Leg, key, cell, last, Path, from_end, child as tree_child, with_child}
 use Rattle.tree_model.specs.Edit.{at_parent, added, set_at, taken_out, element_out, try_set, try_remove}
 use Rattle.binary_model.specs.Change.{position_of, positions}

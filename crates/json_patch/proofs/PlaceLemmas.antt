@@ -1,5 +1,5 @@
 -- What a leg enters in place.
-use Rattle.std.proofs.Common.{◌≡◌, ◌≤◌, ◌<◌, ℕ, zero, suc, ◌+◌, ◌-◌, ℤ, ◌==◌, ◌&&◌, Bool, true, false, List, [], ◌∷◌, ◌++◌, length, map, get_or, slice_get, bytes_eq, Option, Some, None, unwrap_or, option_map, option_and_then, Less, Equal, refl, sym, ap, subst, ◌∙◌, arith, cond, nat_lt, IsSomeAnd, ◌⊎◌, inl, inr}
+use Rattle.std.proofs.Common.{◌≡◌, ◌≤◌, ◌<◌, ℕ, zero, suc, ◌+◌, ◌-◌, ℤ, ◌==◌, ◌&&◌, Bool, true, false, List, [], ◌∷◌, length, map, get_or, slice_get, bytes_eq, Option, Some, None, unwrap_or, option_and_then, Less, Equal, refl, sym, ap, subst, ◌∙◌, arith, cond, nat_lt, IsSomeAnd, ◌⊎◌, inl, inr}
 use Rattle.std.proofs.lemmas.Bool.{ltb-true, ltb-false}
 use Rattle.std.proofs.lemmas.Option.{slice_get_past, slice_get-get_or}
 use Rattle.std.proofs.lemmas.Slice.Eq.{bytes_eq-Decides}
@@ -15,7 +15,7 @@ use Rattle.binary_model.proofs.in_place.AgreeLemmas.{some_is}
 use Rattle.binary_model.proofs.reading.StandLemmas.{values, values_stand, values_length, keys_length}
 use Rattle.binary_model.proofs.in_place.AgainLemmas.{HasElements, HasMembers, keys_low}
 use Rattle.binary_model.proofs.in_place.RefitLemmas.{nth}
-use Rattle.binary_model.proofs.in_place.PositionLemmas.{Itself as ItselfAt, Enters, Step, leg_step, step_is}
+use Rattle.binary_model.proofs.in_place.PositionLemmas.{Itself as ItselfAt, Enters, Step}
 use Rattle.json_edit.specs.Places as places
 use Rattle.json_edit.specs.Places.{place_in}
 use Rattle.json_binary.specs.declared.cursor.place.Spot.{Spot}

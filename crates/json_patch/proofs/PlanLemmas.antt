@@ -1,5 +1,5 @@
 -- A draft goes on as the definition's progress does, and ends as its change.
-use Rattle.std.proofs.Common.{◌≡◌, ◌≤◌, ◌<◌, ℕ, suc, ◌+◌, Bool, true, false, List, [], ◌∷◌, ◌++◌, append-nil, length, take, drop, Option, Some, None, Result, Ok, Err, refl, sym, ap, subst, ◌∙◌, arith, cond}
+use Rattle.std.proofs.Common.{◌≡◌, ◌≤◌, ◌<◌, ℕ, suc, ◌+◌, Bool, true, false, List, [], ◌∷◌, ◌++◌, append-nil, length, take, drop, Some, Ok, Err, refl, sym, ap, subst, ◌∙◌, arith, cond}
 use Rattle.std.proofs.lemmas.List.{length-append, drop_all, take_all}
 use Rattle.tree_model.specs.Tree.{Tree, depth}
 use Rattle.tree_model.specs.Edit.{Edit, edited}
@@ -7,7 +7,7 @@ use Rattle.tree_model.specs.Same.{same_tree}
 use Rattle.tree_model.proofs.SameLemmas.{tree_equal}
 use Rattle.binary_model.specs.Stands.{IsBytes, Stands}
 use Rattle.binary_model.specs.Place.{Holds}
-use Rattle.binary_model.specs.Canonical.{canonical, canonical_length}
+use Rattle.binary_model.specs.Canonical.{canonical_length}
 use Rattle.binary_model.specs.Change as change
 use Rattle.binary_model.specs.Change.{Progress, progress, written, Run, runs, SetsTrees, put_all, stored_as, finished, AreApart, StandAt as Stood}
 use Rattle.binary_model.proofs.in_place.WrittenLemmas.{written_length}

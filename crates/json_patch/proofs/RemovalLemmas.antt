@@ -1,6 +1,6 @@
 -- Removals by one path and by several, one after the other, and what is stored for them.
 use Rattle.std.proofs.Common.{◌≡◌, ℕ, ◌≤◌, ◌<◌, Bool, true, false, true≢false, Option, is_some, option_map, option_and_then, List, [], ◌∷◌, length, Some, None, unwrap_or, refl, sym, ap, ap₂, subst, ◌∙◌, arith}
-use Rattle.tree_model.specs.Tree.{Tree, depth}
+use Rattle.tree_model.specs.Tree.{Tree}
 use Rattle.tree_model.specs.Path.{Path}
 use Rattle.tree_model.specs.Same.{same_tree}
 use Rattle.tree_model.specs.Edit as model

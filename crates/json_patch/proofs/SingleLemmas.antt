@@ -1,7 +1,7 @@
 -- A value put where a path leads, below the root: when it leaves its tree equal, how deep its tree is, and where it stands.
 use Rattle.std.proofs.Common.{nat_lt, ◌≡◌, ℕ, zero, suc, ◌+◌, ◌≤◌, ◌<◌, max, Bool, true, false, true≢false, List, [], ◌∷◌, length, Option, Some, None, option_map, option_and_then, is_some, refl, sym, ap, subst, ◌∙◌, arith}
 use Rattle.tree_model.specs.Tree.{Tree, null, boolean, number, text, array, object, Trees, no_trees, tree, tree_list, Members, no_members, member, depth, trees_depth, members_depth, IsTree, AreTrees, HoldTrees}
-use Rattle.std.proofs.Common.{◌++◌, ◌==◌, if◌then◌else◌, ◌⊎◌, inl, inr}
+use Rattle.std.proofs.Common.{◌++◌, ◌==◌, if◌then◌else◌}
 use Rattle.std.proofs.lemmas.Grind.{common_steps}
 use Rattle.std.proofs.lemmas.Bool.{ltb-false}
 use Rattle.tree_model.specs.Path.{Leg, key, cell, last, Path, child}

@@ -8,3 +8,4 @@ pub mod Made
 pub mod Draft
 pub mod Answer
 pub mod Removal
+pub mod Spliced

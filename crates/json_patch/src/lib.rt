@@ -12,6 +12,7 @@ mod removal;
 mod restored;
 mod room;
 mod spans;
+mod spliced;
 #[cfg(test)]
 mod tests;
 mod touched;

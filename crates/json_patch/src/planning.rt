@@ -1,5 +1,5 @@
 //! Which bytes of a stored document an edit touches.
-ghost use Rattle.std.specs.Prelude.{◌≡◌, ◌≤◌, ◌+◌, ◌∷◌, ℕ, List, [], length, map, Some, None, Ok, IfOk};
+ghost use Rattle.std.specs.Prelude.{◌≡◌, ◌≤◌, ◌+◌, ◌∷◌, ℕ, List, [], length, map, Some, None, Ok, IfOk, IfSome};
 ghost use Rattle.tree_model.specs.Tree.{Tree, depth};
 ghost use Rattle.tree_model.specs.Edit.{Edit as ModelEdit};
 ghost use Rattle.tree_model.specs.Text.{max_depth};
@@ -20,6 +20,7 @@ use crate::parts::Parts;
 use crate::removal::plan_removals;
 use crate::restored::is_restored;
 use crate::spans::runs_in_spans;
+use crate::spliced::replaced;
 use crate::touched::runs_of_writes;
 use json_binary::{EncodeError, decode, encode, nests, root};
 use json_edit::{Edit, Pair, edit_all};
@@ -38,12 +39,14 @@ pub enum Planned {
 }
 
 /// What an edit makes of a stored document: nothing where the tree stays equal; else patches where
-/// each pair could be made in place; else a new encoding. The document's tree is built only where a
-/// pair can't be made in place, even if the tree then proves equal, too deep or too large. An edit
-/// of one pair that replaces a value in place, or leaves it equal, costs its path, the value there
-/// and the entries up to the nearest values beside it that don't stand in theirs; a removal by one
-/// path costs that path and its container's entries. By several pairs or paths the bytes are copied
-/// once, and compared with the old ones where they were written.
+/// each pair could be made in place; else a new encoding. Where one pair replaces a value that has
+/// no room, and what is beside its path stands canonically, that encoding is laid from the
+/// document's bytes. The document's tree is built only where others can't be made in place, even if
+/// the tree then proves equal, too deep or too large. An edit of one pair that replaces a value in
+/// place, or leaves it equal, costs its path, the value there and the entries up to the nearest
+/// values beside it that don't stand in theirs; a removal by one path costs that path and its
+/// container's entries. By several pairs or paths the bytes are copied once, and compared with the
+/// old ones where they were written.
 pub fn plan(alloc: Global, bytes: &[u8], edit: &Edit) -> Result<Planned, PlanError>
     requires document { IsDocument bytes.now }
     requires small { length bytes.now ≤ max_document_bytes }
@@ -138,12 +141,54 @@ fn finish(alloc: Global, bytes: &[u8], draft: Draft) -> Result<Option<Planned>, 
     Ok(Some(Planned::Parts(parts)))
 }
 
+// A new encoding that is laid from the document's bytes, of an edit that can't be made in place:
+// where one pair replaces a value, and what is beside its path stands canonically.
+fn plan_copied(alloc: Global, bytes: &[u8], edit: &Edit) -> Result<Option<Planned>, AllocError>
+    requires document { IsDocument bytes.now }
+    requires anew { PlansOrNot bytes.now (edit_of edit.now) None }
+    ensures { IfOk result (λ found. IfSome found (λ planned.
+        Plans bytes.now (edit_of edit.now) (Ok planned))) }
+{
+    match edit {
+        Edit::Set(pairs) => copy_pairs(alloc, bytes, pairs.as_slice(), true),
+        Edit::Replace(pairs) => copy_pairs(alloc, bytes, pairs.as_slice(), false),
+        Edit::Remove(_) => Ok(None),
+    }
+}
+
+// The same, of an edit by pairs.
+fn copy_pairs(
+    alloc: Global,
+    bytes: &[u8],
+    pairs: &[Pair],
+    adding: bool,
+) -> Result<Option<Planned>, AllocError>
+    requires document { IsDocument bytes.now }
+    requires anew { PlansOrNot bytes.now (edit_by adding (map assigned pairs.now)) None }
+    ensures { IfOk result (λ found. IfSome found (λ planned.
+        Plans bytes.now (edit_by adding (map assigned pairs.now)) (Ok planned))) }
+{
+    let [pair] = pairs else {
+        return Ok(None);
+    };
+    if nests_over(pair) {
+        return Ok(None);
+    }
+    match replaced(alloc, bytes, pair)? {
+        Some(encoding) => Ok(Some(Planned::Full(encoding))),
+        None => Ok(None),
+    }
+}
+
 // What is stored where a pair can't be made in place.
 fn encode_anew(alloc: Global, bytes: &[u8], edit: &Edit) -> Result<Planned, PlanError>
     requires document { IsDocument bytes.now }
     requires anew { PlansOrNot bytes.now (edit_of edit.now) None }
     ensures { Plans bytes.now (edit_of edit.now) result }
 {
+    if let Some(planned) = plan_copied(alloc, bytes, edit)? {
+        return Ok(planned);
+    }
     let Ok(before) = decode(alloc, bytes) else {
         return Err(PlanError::Memory);
     };

@@ -1,4 +1,4 @@
-use Rattle.std.proofs.Common.{◌∷◌, ◌-◌, true, length, map, take, drop, refl, sym, ap, subst}
+use Rattle.std.proofs.Common.{◌-◌, true, length, map, take, drop, refl, sym, ap, subst}
 use Rattle.json_path.specs.View.{leg_of}
 use Rattle.json_binary.specs.Place.{spot_of}
 use Rattle.json_edit.proofs.ChildLemmas.{parts}

@@ -1,4 +1,4 @@
-use Rattle.std.proofs.Common.{◌∙◌, None, true, IfSome, option_map, sym, ap, subst}
+use Rattle.std.proofs.Common.{◌∙◌, IfSome, option_map, sym, subst}
 use Rattle.tree_model.specs.Tree.{IsTree}
 use Rattle.binary_model.specs.Stands.{IsValue}
 use Rattle.binary_model.specs.Canonical.{spelling}

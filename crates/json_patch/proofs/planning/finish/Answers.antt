@@ -1,8 +1,8 @@
-use Rattle.std.proofs.Common.{◌≡◌, ◌≤◌, List, ℕ, Some, length, sym, ap, subst, map, ◌∙◌}
-use Rattle.tree_model.specs.Tree.{Tree, depth}
+use Rattle.std.proofs.Common.{◌≤◌, sym, ap, subst, map, ◌∙◌}
+use Rattle.tree_model.specs.Tree.{depth}
 use Rattle.binary_model.specs.Layout.{root}
 use Rattle.binary_model.specs.Stands.{IsValue}
-use Rattle.binary_model.specs.Change.{Progress, progress, runs}
+use Rattle.binary_model.specs.Change.{progress, runs}
 use Rattle.json_binary.specs.Place.{spot_of}
 use Rattle.json_patch.specs.Touched.{same_at}
 use Rattle.json_patch.specs.Made.{in_place}

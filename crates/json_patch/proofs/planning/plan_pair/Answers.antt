@@ -1,10 +1,8 @@
-use Rattle.std.proofs.Common.{[], ◌∷◌, ◌∙◌, refl, sym, ap, subst, rules}
-use Rattle.tree_model.specs.Tree.{Tree}
-use Rattle.binary_model.specs.Stands.{IsBytes, Stands}
+use Rattle.std.proofs.Common.{[], ◌∷◌, ◌∙◌, ap, subst, rules}
+use Rattle.binary_model.specs.Stands.{IsBytes}
 use Rattle.binary_model.specs.Change.{runs}
 use Rattle.json_tree.specs.View.{tree_of}
 use Rattle.json_edit.specs.Edits.{assigned}
-use Rattle.json_patch.specs.declared.pair.Made.TheVariants.{Kept, Written, Anew}
 use Rattle.json_patch.specs.Writes.{put_writes}
 use Rattle.json_patch.specs.Made.{Makes, edit_by}
 use Rattle.json_patch.proofs.PlanLemmas.{stands_for, same_plan, parts_plan}

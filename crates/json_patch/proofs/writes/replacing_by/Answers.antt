@@ -1,9 +1,8 @@
-use Rattle.std.proofs.Common.{◌≡◌, ◌≤◌, ◌+◌, ◌-◌, length, refl, sym, ap, subst, ◌∙◌, arith}
+use Rattle.std.proofs.Common.{◌≤◌, ◌+◌, ◌-◌, length, refl, sym, ap, ◌∙◌, arith}
 use Rattle.binary_model.specs.Change.{room_start, room_end}
 use Rattle.json_binary.specs.Place.{container_of}
 use Rattle.json_binary.specs.Writing.{entry, spelling_of}
-use Rattle.json_binary.specs.View.{form_of}
-use Rattle.json_patch.proofs.WriteLemmas.{lies, too_long, made_inlined, made_outside}
+use Rattle.json_patch.proofs.WriteLemmas.{lies, made_inlined, made_outside}
 use Rattle.json_patch.proofs.writes.replacing_by.Goals as goal
 
 pub returns-then-is_inlined : goal.returns-then-is_inlined
