@@ -13,10 +13,14 @@ PROGRAM is the built `lobstore` (by default the one that `rt run` leaves in crat
   time of the insert alone: the first copies the stored bytes once.
 - SQLite: M sets (by default 20) of that number in the same 10 MB by `json_set` in one UPDATE each, in memory, by its command line, less
   the time of the insert alone; for each of them, against ours. Left out where there is no `sqlite3`.
+- growing: as many sets of one text that is a letter longer each time, so that it has no room and the document is encoded anew, in the
+  same 10 MB and 10 KB, each less the insert alone; beside `json_set` of that text.
+- gets: 5 reads of the same 10 MB, less the insert alone, beside Python's `json.dumps` of the same tree.
 
 Each runs several rounds (by default 3), in turns; the best counts.
 """
 import argparse
+import json
 import os
 import shutil
 import subprocess
@@ -54,12 +58,30 @@ def with_removals(size, count):
     return insert_only(size) + "".join('s1 remove 1 ["$.items[%d].name"]\n' % n for n in range(count))
 
 
-def sqlite_script(size, count):
-    """A table with the document, and so many updates of its number."""
+def with_growth(size, count):
+    return insert_only(size) + "".join('s1 set 1 ["$.items[5].name","item%s"]\n' % ("x" * (n + 1)) for n in range(count))
+
+
+def with_gets(size, count):
+    return insert_only(size) + "s1 get 1\n" * count
+
+
+def sqlite_script(size, updates):
+    """A table with the document, and updates of it, each of a path and a value."""
     yield "CREATE TABLE docs(id INTEGER PRIMARY KEY, doc TEXT);\n"
     yield "INSERT INTO docs VALUES(1, '%s');\n" % document(size)
-    for n in range(count):
-        yield "UPDATE docs SET doc = json_set(doc, '$.n', %d) WHERE id = 1;\n" % (n + 1)
+    for path, value in updates:
+        yield "UPDATE docs SET doc = json_set(doc, '%s', %s) WHERE id = 1;\n" % (path, value)
+
+
+def dumps_seconds(size, rounds):
+    tree = json.loads(document(size))
+    times = []
+    for _ in range(rounds):
+        begin = time.perf_counter()
+        json.dumps(tree)
+        times.append(time.perf_counter() - begin)
+    return min(times)
 
 
 def statements(count):
@@ -111,12 +133,25 @@ def main():
     pairs, removals = best(ours, scripts, args.rounds, 0)
     print("in 10 MB: a set of two numbers %.3f ms, a removal %.3f ms" % ((pairs - large_base) * 1e3 / count, (removals - large_base) * 1e3 / count))
 
+    count = args.sqlite_sets
+    scripts = [insert_only(large), with_growth(large, count), with_gets(large, 5)]
+    alone, grown, shown = best(ours, scripts, args.rounds, 0)
+    growth, read = (grown - alone) / count, (shown - alone) / 5
+    dumps = dumps_seconds(large, args.rounds)
+    print("a get of 10 MB: %.1f ms, json.dumps %.1f ms, ratio %.2f" % (read * 1e3, dumps * 1e3, read / dumps))
+    scripts = [insert_only(small), with_growth(small, 1_000)]
+    alone, grown = best(ours, scripts, args.rounds, 0)
+    print("a text that grows: in 10 MB %.1f ms, in 10 KB %.4f ms" % (growth * 1e3, (grown - alone)))
+
     if shutil.which("sqlite3"):
-        count = args.sqlite_sets
-        scripts = ["".join(sqlite_script(large, 0)), "".join(sqlite_script(large, count))]
-        alone, updated = best(["sqlite3", ":memory:"], scripts, args.rounds, 0)
+        numbers = [("$.n", n + 1) for n in range(count)]
+        texts = [("$.items[5].name", "'item%s'" % ("x" * (n + 1))) for n in range(count)]
+        scripts = ["".join(sqlite_script(large, updates)) for updates in ([], numbers, texts)]
+        alone, updated, grown = best(["sqlite3", ":memory:"], scripts, args.rounds, 0)
         each, our_each = (updated - alone) / count, (large_sets - large_base) / args.sets
         print("a set in 10 MB: SQLite %.1f ms, ours %.4f ms, ratio %.0f" % (each * 1e3, our_each * 1e3, each / max(our_each, 1e-9)))
+        each = (grown - alone) / count
+        print("a text that grows in 10 MB: SQLite %.1f ms, ours %.1f ms, ratio %.2f" % (each * 1e3, growth * 1e3, growth / each))
 
 
 if __name__ == "__main__":
