@@ -18,12 +18,12 @@ use Rattle.read_views.specs.Steps.{piece_start, piece_room}
 
 -- ---- all pieces at a version
 
-record Splits (o : Option Version) (r : Option (List ℕ)) (bytes : List ℕ) : Type 0 where
-  x : Version
-  is : o ≡ Some x
-  rest : List ℕ
-  left : r ≡ Some rest
-  both : bytes ≡ x.bytes ++ rest
+pub record Splits (o : Option Version) (r : Option (List ℕ)) (bytes : List ℕ) : Type 0 where
+  pub x : Version
+  pub is : o ≡ Some x
+  pub rest : List ℕ
+  pub left : r ≡ Some rest
+  pub both : bytes ≡ x.bytes ++ rest
 
 no_bytes : (bytes : List ℕ) → (let n : Option (List ℕ) = None in n) ≡ Some bytes → ⊥
 no_bytes bytes e = cc e
@@ -31,7 +31,7 @@ no_bytes bytes e = cc e
 some_bytes : (a b : List ℕ) → Some a ≡ Some b → a ≡ b
 some_bytes a b e = cc e
 
-splits : (o : Option Version) (r : Option (List ℕ)) (bytes : List ℕ) → joined o r ≡ Some bytes
+pub splits : (o : Option Version) (r : Option (List ℕ)) (bytes : List ℕ) → joined o r ≡ Some bytes
     → Splits o r bytes
 splits None r bytes e = absurd (no_bytes bytes e)
 splits (Some x) None bytes e = absurd (no_bytes bytes e)

@@ -10,3 +10,4 @@ pub mod PiecesLemmas
 pub mod EventLemmas
 pub mod UnderWayLemmas
 pub mod TestLemmas
+pub mod StayLemmas
